@@ -7,8 +7,11 @@ from bisect import bisect_right
 from urllib.parse import unquote, unquote_to_bytes
 
 from parts import urls
+from parts.words import plain
 
 MARK = b"\xef\xbb\xbf"
+# How many bytes on each side of a place are looked at to show its line.
+NEAR = 2_000
 
 
 class NoBundle(Exception):
@@ -79,6 +82,7 @@ class Source:
         self.data = data.removeprefix(MARK)
         self.mark = len(data) - len(self.data)
         self.starts = None
+        self.last = (0, 0, 0)  # of the last place that was asked for: the line's start, the byte, the characters between
 
     def text(self):
         return self.data.decode("utf-8", "replace")
@@ -105,18 +109,27 @@ class Source:
         """The line and the column of a byte, both from 1; a column counts characters."""
         starts = self.lines()
         line = bisect_right(starts, at)
-        return line, len(self.data[starts[line - 1]:at].decode("utf-8", "replace")) + 1
+        start, byte, count = self.last
+        if start != starts[line - 1] or byte > at:
+            start, byte, count = starts[line - 1], starts[line - 1], 0
+        count += len(self.data[byte:at].decode("utf-8", "replace"))
+        self.last = start, at, count
+        return line, count + 1
 
-    def line(self, number):
-        """The text of a line, from 1."""
+    def line(self, number, near=None):
+        """The text of a line, from 1, and the byte with which it begins: of a long one what is near a byte of it."""
         starts = self.lines()
+        start = starts[number - 1]
         end = starts[number] if number < len(starts) else len(self.data)
-        return self.data[starts[number - 1]:end].decode("utf-8", "replace").rstrip("\r\n")
+        if near is not None:
+            start, end = max(start, near - NEAR), min(end, near + NEAR)
+            while start < near and self.data[start] & 0xC0 == 0x80:
+                start += 1
+        return self.data[start:end].decode("utf-8", "replace").rstrip("\r\n"), start
 
 
 def shown(specifier, front=""):
     """A specifier as a person reads it: a file's path, or the URL."""
     if not specifier.startswith("file:///"):
-        return specifier
-    path = unquote(specifier[len("file:///"):], errors="replace")
-    return front + "".join(c if c.isprintable() else repr(c)[1:-1] for c in path)
+        return plain(specifier)
+    return plain(front + unquote(specifier[len("file:///"):], errors="replace"))

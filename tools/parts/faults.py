@@ -6,7 +6,7 @@ import re
 import sys
 
 from parts import places, report
-from parts.bundles import shown
+from parts.bundles import NEAR, shown
 
 Fault = collections.namedtuple("Fault", "kind specifier start end what")
 Fault.__doc__ = """kind: missing, parse, decode, wasm, loading, redirects, unsupported, data, package, edge, or root.
@@ -166,22 +166,25 @@ def lines_of(fault, bundle, front=""):
         return
     line, column = source.place(fault.start)
     yield f"{where}:{line}:{column}: {fault.what}"
-    yield from excerpt(source, line, column, fault)
+    yield from excerpt(source, line, fault)
 
 
 WIDE = 100  # characters of a line that are shown
 
 
-def excerpt(source, line, column, fault):
-    text = source.line(line)
-    last = source.data[fault.start:fault.end].decode("utf-8", "replace").split("\n")[0]
+def excerpt(source, line, fault):
+    text, first = source.line(line, fault.start)
+    column = len(source.data[first:fault.start].decode("utf-8", "replace")) + 1
+    last = source.data[fault.start:min(fault.end, fault.start + NEAR)].decode("utf-8", "replace").split("\n")[0]
     count = max(1, min(len(last), len(text) - column + 1))
     cut = max(0, min(column - WIDE // 2, len(text) - WIDE)) if len(text) > WIDE else 0
     shown_part = text[cut:cut + WIDE]
     before = "".join("\t" if c == "\t" else " " * wide(c) for c in shown_part[:column - 1 - cut])
     under = sum(wide(c) for c in text[column - 1:column - 1 + count]) or 1
-    yield "    " + ("…" if cut else "") + "".join(c if c.isprintable() or c == "\t" else "\ufffd" for c in shown_part) + ("…" if cut + WIDE < len(text) else "")
-    yield "    " + (" " if cut else "") + before + "^" + "~" * (min(under, WIDE) - 1)
+    is_cut = cut > 0 or first > source.lines()[line - 1]
+    is_open = cut + WIDE < len(text) or fault.start + NEAR < (source.lines() + [len(source.data)])[line]
+    yield "    " + ("…" if is_cut else "") + "".join(c if c.isprintable() or c == "\t" else "\ufffd" for c in shown_part) + ("…" if is_open else "")
+    yield "    " + (" " if is_cut else "") + before + "^" + "~" * (min(under, WIDE) - 1)
 
 
 def wide(character):

@@ -2,6 +2,10 @@
 import re
 
 
+# Folders below each other that stand apart; deeper ones count as one.
+DEEPEST = 100
+
+
 class Node:
     """A folder: its entries, and the folders below."""
 
@@ -27,7 +31,8 @@ def parts_of(folder):
     if not found:
         return [folder]
     paths = [found[1]]
-    for name in found[2].split("/"):
+    *names, rest = found[2].split("/", DEEPEST)
+    for name in [*names, rest.strip("/")]:
         if name:
             paths.append(f"{paths[-1]}{name}/")
     return paths

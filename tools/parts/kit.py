@@ -1,6 +1,7 @@
 """The toolchain, the crates of the repository, and the folder where what was built is kept."""
 import importlib.machinery
 import importlib.util
+import json
 import os
 import re
 import shutil
@@ -23,6 +24,8 @@ def kept_folder():
 KEPT = kept_folder()
 # The version of the tools, the program and the library.
 VERSION = "0.1.0"
+# What a release has in the place of sources and a toolchain, in a file of this name.
+RELEASE = os.path.join(ROOT, "RELEASE")
 # The versions of the toolchain with which the gate was run.
 TRIED = ("rattle-kit-13f",)
 
@@ -132,7 +135,22 @@ def is_newest(place):
     return all(os.stat(file).st_mtime <= made for file in files)
 
 
+def release():
+    """Of a release its version, whether its program is proved, and the paths of its program and its library; else None."""
+    try:
+        with open(RELEASE, encoding="utf-8") as file:
+            found = json.load(file)
+        return {**found, **{key: os.path.join(ROOT, found[key]) for key in ("program", "library")}}
+    except FileNotFoundError:
+        return None
+    except (OSError, ValueError, KeyError, TypeError) as error:
+        raise NoKit(f"{RELEASE} can't be read: {error}") from error
+
+
 def proved_program():
     """The path of the proved program, or None where it isn't built or a source is newer."""
+    found = release()
+    if found:
+        return found["program"] if found.get("proved") else None
     place = os.path.join(ROOT, "crates", "graph_tool", "out", "graph_tool")
     return place if os.access(place, os.X_OK) and is_newest(place) else None

@@ -29,7 +29,7 @@ def name_of():
 def place():
     """Where the library is, or None where it isn't yet."""
     try:
-        return os.environ.get("JORAVELSU_LIBRARY") or kits.kept(name_of())
+        return os.environ.get("JORAVELSU_LIBRARY") or (kits.release() or {}).get("library") or kits.kept(name_of())
     except (kits.NoKit, OSError):
         return None
 
@@ -39,6 +39,14 @@ def made():
     found = place()
     if found:
         return found
+    try:
+        with unproved.alone("libjoravelsu", "joravelsu"):
+            return place() or built()
+    except OSError as failed:
+        raise NoLibrary(f"the library can't be kept: {failed}") from failed
+
+
+def built():
     how = [] if is_proved() else ["--unproved"]
     with tempfile.TemporaryDirectory(prefix="joravelsu-") as room:
         words = [os.path.join(kits.ROOT, "tools", "build-library"), *how, room]

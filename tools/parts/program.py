@@ -19,18 +19,19 @@ class NoProgram(Exception):
 
 class Program:
     def __init__(self, who):
-        """The program; where it is compiled first, `who` is told to have done so."""
-        self.proved = kits.proved_program()
-        self.path = self.proved
-        if not self.path:
-            try:
-                self.path = unproved.program(who)
-            except (unproved.Failed, kits.NoKit, OSError) as failed:
-                raise NoProgram(f"the program can't be compiled: {failed}") from failed
+        """The program: of a release, the proved one, or the same compiled without its proofs, which `who` reports."""
+        try:
+            self.proved = kits.proved_program()
+            self.path = self.proved or (kits.release() or {}).get("program") or unproved.program(who)
+        except (unproved.Failed, kits.NoKit, OSError) as failed:
+            raise NoProgram(f"the program can't be compiled: {failed}") from failed
 
     def report(self, bundle):
         """The status, and what the program writes for a bundle."""
-        ran = subprocess.run([self.path, "build"], input=bundle, stdout=subprocess.PIPE, check=False, env=os.environ)
+        try:
+            ran = subprocess.run([self.path, "build"], input=bundle, stdout=subprocess.PIPE, check=False, env=os.environ)
+        except OSError as error:
+            raise NoProgram(f"the program can't be run: {error.strerror}") from error
         if ran.returncode not in (0, 1, 2):
             raise NoProgram(f"the program gave no report: {REASONS.get(ran.returncode, f'status {ran.returncode}')}")
         return ran.returncode, ran.stdout

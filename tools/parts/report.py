@@ -230,6 +230,9 @@ class Graph:
                         break
                     found[target.specifier][source.specifier] = None
                     target = self.entries.get(target.edges[0].target) if target.kind() == "redirect" else None
+        for place, edge in self.referrers:  # one that is an entry says what belongs to it, as its declaration
+            if place in self.entries and edge.target in self.entries:
+                found[edge.target][place] = None
         return {specifier: list(names) for specifier, names in found.items()}
 
 

@@ -1,152 +1,220 @@
-"""Where a specifier leads in a folder, as TypeScript's resolution for bundlers has it: endings, index files, packages,
-and the paths of a tsconfig. Places are paths from the folder, with / between names.
+"""Where a specifier leads in a folder, as Node and TypeScript's resolution for bundlers have it: endings, index files and
+packages. Places are paths from the folder, with / between names; nothing outside the folder is looked at.
 """
+import collections
 import fnmatch
-import json
 import os
 import posixpath
 import re
 
+from parts.settings import BadFile, json_of
+from parts.words import plain
+
 ENDINGS = (".ts", ".tsx", ".mts", ".cts", ".d.ts", ".js", ".mjs", ".cjs", ".jsx", ".json")
-# What stands for a file of JavaScript that isn't there.
+DECLARATIONS = (".d.ts", ".d.mts", ".d.cts")
+# What stands for a file of JavaScript: the source of which it is made, or its declaration.
 KIN = {".js": (".ts", ".tsx", ".d.ts"), ".mjs": (".mts", ".d.mts"), ".cjs": (".cts", ".d.cts"), ".jsx": (".tsx", ".d.ts")}
-CONDITIONS = ("import", "module", "default", "types")
+CONDITIONS = ("import", "module", "default")
+# A longer specifier is no path of a file.
+LONGEST = 4096
 BUILTINS = frozenset("""assert assert/strict async_hooks buffer child_process cluster console constants crypto
     dgram diagnostics_channel dns dns/promises domain events fs fs/promises http http2 https inspector inspector/promises
     module net os path path/posix path/win32 perf_hooks process punycode querystring readline readline/promises repl
     stream stream/consumers stream/promises stream/web string_decoder sys timers timers/promises tls trace_events tty url
     util util/types v8 vm wasi worker_threads zlib""".split())
-
-
-class BadFile(Exception):
-    """A file of settings that can't be read, in one line."""
-
-
-def json_of(path, has_comments=False):
-    """The value of a file of JSON, with comments and commas at the end where a tsconfig may have them."""
-    try:
-        with open(path, encoding="utf-8-sig") as file:
-            text = file.read()
-        if has_comments:
-            text = re.sub(r'("(?:[^"\\]|\\.)*")|//[^\n]*|/\*[\s\S]*?\*/', lambda found: found[1] or " ", text)
-            text = re.sub(r'("(?:[^"\\]|\\.)*")|,(?=\s*[}\]])', lambda found: found[1] or "", text)
-        return json.loads(text)
-    except OSError as error:
-        raise BadFile(f"{path}: {error.strerror}") from error
-    except ValueError as error:
-        raise BadFile(f"{path}: no JSON: {error}") from error
+# Why what stands at a place is no file of the folder.
+NO_FILE = {"out": "a symbolic link that leads out of the folder; --links-out takes it", "loop": "a symbolic link that leads to itself",
+           "nothing": "a link to nothing", "other": "no file"}
 
 
 def joined(folder, path):
     """A path from a place in the folder, or None where it leads out of it."""
     place = posixpath.normpath(posixpath.join(folder, path))
-    return None if place.startswith("../") or place in ("..", "/") else "" if place == "." else place
+    return None if place.startswith(("../", "/")) or place == ".." else "" if place == "." else place
+
+
+class Ways:
+    """By what a specifier becomes a file: the conditions of packages, the field `browser`, and whether types come first."""
+
+    def __init__(self, conditions=(), browser=False, types_first=False):
+        self.conditions = frozenset(conditions) | frozenset(CONDITIONS) | (frozenset(["browser"]) if browser else frozenset())
+        self.browser = browser
+        self.types_first = types_first
+        types = ("types", "typings")
+        code = ("browser",) * browser + ("module", "main")
+        self.fields = types + code if types_first else code + types
+        self.endings = ENDINGS if types_first else sorted(ENDINGS, key=lambda ending: ending in DECLARATIONS)
+
+    def turned(self, types_first):
+        """The same with types first, or code."""
+        return Ways(self.conditions, self.browser, types_first)
 
 
 class Folder:
     """A folder on the disk; what is asked once is known from then on."""
 
-    def __init__(self, root, code_first=False):
+    def __init__(self, root, links_out=False):
         self.root = root
+        self.real_root = os.path.realpath(root)
+        self.links_out = links_out
         self.names = {}
         self.packages = {}
-        self.endings = sorted(ENDINGS, key=lambda ending: ending == ".d.ts") if code_first else ENDINGS
+        self.tables = {}
 
     def path(self, place):
-        return os.path.join(self.root, place)
-
-    def is_file(self, place):
-        return self.names_in(posixpath.dirname(place)).get(posixpath.basename(place)) == "file"
-
-    def is_folder(self, place):
-        return place == "" or self.names_in(posixpath.dirname(place)).get(posixpath.basename(place)) == "folder"
+        return os.path.join("" if self.root == "." else self.root, place) or "."
 
     def names_in(self, place):
         """The names that stand in a folder, each with what it is; a link counts as what it leads to."""
         if place not in self.names:
-            found = {}
             try:
                 with os.scandir(self.path(place)) as items:
-                    for item in items:
-                        found[item.name] = "folder" if item.is_dir() else "file" if item.is_file() else "other"
-            except OSError:
-                pass
-            self.names[place] = found
+                    self.names[place] = {item.name: self.kind_of(item) for item in items}
+            except PermissionError as error:
+                raise BadFile(f"{plain(self.path(place))}: {error.strerror}") from error
+            except (OSError, ValueError):  # it isn't there, its name is too long, or none
+                self.names[place] = {}
         return self.names[place]
+
+    def kind_of(self, item):
+        """file, folder, other, or of a link that isn't taken: out, nothing, loop."""
+        try:
+            if item.is_symlink():
+                real = os.path.realpath(item.path)
+                if not os.path.lexists(real):
+                    return "nothing"
+                if os.path.islink(real):
+                    return "loop"
+                if not self.links_out and not is_below(real, self.real_root):
+                    return "out"
+            return "folder" if item.is_dir() else "file" if item.is_file() else "other"
+        except OSError:
+            return "loop"
+
+    def what(self, place):
+        """What stands at a place, or None: each folder on the way is one of the folder."""
+        kind, at = "folder", ""
+        for name in place.split("/") if place else ():
+            if kind != "folder" or name in ("", ".", ".."):
+                return kind if kind in NO_FILE else None
+            kind = self.names_in(at).get(name)
+            at = f"{at}/{name}" if at else name
+        return kind
+
+    def is_file(self, place):
+        return self.what(place) == "file"
+
+    def is_folder(self, place):
+        return self.what(place) == "folder"
+
+    def why_none(self, place):
+        """Why what stands at a place is taken for no file, or None where nothing stands there."""
+        return None if place is None else NO_FILE.get(self.what(place))
 
     def package(self, place):
         """The package.json of a folder, or {}."""
         if place not in self.packages:
-            value = {}
-            if self.is_file(posixpath.join(place, "package.json")):
-                try:
-                    value = json_of(self.path(posixpath.join(place, "package.json")))
-                except BadFile:
-                    value = {}
+            file = posixpath.join(place, "package.json")
+            value = json_of(self.path(file)) if self.is_file(file) else {}
             self.packages[place] = value if isinstance(value, dict) else {}
         return self.packages[place]
 
     # ---- files
 
-    def file_at(self, place):
+    def file_at(self, place, ways):
         """The file for which a place stands: itself, with an ending, as a folder, or with the ending of its kin."""
         if place is None:
             return None
+        kin = self.kin_of(place, DECLARATIONS if ways.types_first else ())
+        return kin or self.file_with_ending(place, ways) or self.in_folder(place, ways) or self.kin_of(place)
+
+    def file_with_ending(self, place, ways):
         if place and self.is_file(place):
             return place
-        for ending in self.endings if place else ():
+        for ending in ways.endings if place else ():
             if self.is_file(place + ending):
                 return place + ending
-        return self.in_folder(place) or self.kin_of(place)
+        return None
 
-    def in_folder(self, place):
+    def in_folder(self, place, ways):
         """The file for which a folder stands: that of its package.json, or its index."""
         if not self.is_folder(place):
             return None
         package = self.package(place)
-        for key in ("module", "main", "types", "typings"):
+        for key in ways.fields:
             path = package.get(key)
-            if isinstance(path, str) and joined(place, path) not in (None, place):
-                found = self.file_at(joined(place, path))
+            if isinstance(path, str) and path and joined(place, path) not in (None, place):
+                found = self.main_of(place, key, joined(place, path), ways)
                 if found:
                     return found
-        for ending in self.endings:
+        return self.index_of(place, ways)
+
+    def main_of(self, place, key, target, ways):
+        """What a field of a package.json names: a file, or a folder with an index, whose own package.json says nothing."""
+        found = self.file_with_ending(target, ways) or (self.index_of(target, ways) if self.is_folder(target) else None) or self.kin_of(target)
+        if not found and self.is_folder(target) and self.leads_back(place, target, ways):
+            raise BadFile(f"{plain(self.path(posixpath.join(place, 'package.json')))}: {key} leads to {plain(target)}, and from there back")
+        return found
+
+    def leads_back(self, place, target, ways):
+        """Whether fields of package.json lead from a folder to one where they led before."""
+        seen = {place}
+        while target is not None and target not in seen:
+            seen.add(target)
+            paths = [self.package(target).get(key) for key in ways.fields] if self.is_folder(target) else []
+            target = next((joined(target, path) for path in paths if isinstance(path, str)), None)
+        return target is not None
+
+    def index_of(self, place, ways):
+        for ending in ways.endings:
             if self.is_file(posixpath.join(place, "index" + ending)):
                 return posixpath.join(place, "index" + ending)
         return None
 
-    def kin_of(self, place):
+    def kin_of(self, place, among=None):
         front, ending = posixpath.splitext(place)
         for other in KIN.get(ending, ()):
-            if self.is_file(front + other):
+            if (among is None or other in among) and self.is_file(front + other):
+                return front + other
+        return None
+
+    def declaration_of(self, place):
+        """The declaration beside a file of JavaScript, or None."""
+        front, ending = posixpath.splitext(place)
+        for other in KIN.get(ending, ()):
+            if other in DECLARATIONS and self.is_file(front + other):
                 return front + other
         return None
 
     # ---- packages
 
-    def in_packages(self, folder, specifier):
-        """The file to which a bare specifier leads from a folder, and why there is none."""
+    def in_packages(self, folder, specifier, ways, asked=()):
+        """The file to which a bare specifier leads from a folder, and why there is none; False where a package has none for it."""
         name, sub = package_name(specifier)
         if not name:
             return None, "it is no name of a package"
-        if specifier.startswith("#"):
-            return self.in_imports(folder, specifier)
         own = self.scope_of(folder)
+        if specifier.startswith("#"):
+            return self.in_imports(own, specifier, ways, asked)
         if own is not None and self.package(own).get("name") == name and "exports" in self.package(own):
-            return self.in_exports(own, sub)
+            return self.in_exports(own, sub, ways)
         why = f"no node_modules has {name}"
         for at in above(folder):
+            if posixpath.basename(at) == "node_modules":
+                continue
             place = posixpath.join(at, "node_modules", name)
-            if posixpath.basename(at) != "node_modules" and self.is_folder(place):
-                found, why = self.in_package(self.real(place), sub)
-                if found:
+            if self.is_folder(place):
+                found, why = self.in_package(self.real(place), sub, ways)
+                if found or found is False:
                     return found, None
+            elif self.why_none(place):
+                why = f"{place}: {self.why_none(place)}"
         return None, why
 
     def real(self, place):
         """A package without the links on its way, where they don't lead out of the folder."""
-        path = os.path.relpath(os.path.realpath(self.path(place)), os.path.realpath(self.root)).replace(os.sep, "/")
-        return place if path.startswith("../") else path
+        path = os.path.realpath(self.path(place))
+        return os.path.relpath(path, self.real_root).replace(os.sep, "/") if is_below(path, self.real_root) else place
 
     def scope_of(self, folder):
         """The closest folder above with a package.json."""
@@ -155,69 +223,132 @@ class Folder:
                 return at
         return None
 
-    def in_package(self, place, sub):
+    def in_package(self, place, sub, ways):
         package = self.package(place)
         if package.get("exports") is not None:
-            return self.in_exports(place, sub)
-        found = self.in_folder(place) if sub == "." else self.file_at(joined(place, sub))
+            return self.in_exports(place, sub, ways)
+        found = self.in_folder(place, ways) if sub == "." else self.file_at(joined(place, sub), ways)
         return found, None if found else f"{place} has no {sub}" if sub != "." else f"{place} names no file"
 
-    def in_exports(self, place, sub):
+    def in_exports(self, place, sub, ways):
         exports = self.package(place)["exports"]
         if not isinstance(exports, dict) or not any(key.startswith(".") for key in exports):
             exports = {".": exports}
-        return self.target_of(place, exports, sub, "exports")
+        return self.target_of(place, exports, sub, "exports", ways)
 
-    def in_imports(self, folder, specifier):
-        place = self.scope_of(folder)
+    def in_imports(self, place, specifier, ways, asked):
+        if place is not None and specifier in asked:
+            raise BadFile(f"{plain(self.path(posixpath.join(place, 'package.json')))}: imports leads from {plain(specifier)} back to it")
         imports = self.package(place).get("imports") if place is not None else None
         if not isinstance(imports, dict):
             return None, "no package.json above has imports"
-        return self.target_of(place, imports, specifier, "imports")
+        return self.target_of(place, imports, specifier, "imports", ways, (*asked, specifier))
 
-    def target_of(self, place, table, sub, key):
+    def target_of(self, place, table, sub, key, ways, asked=()):
         """The file of a row of exports or imports; a * stands for any text, and the longest front counts."""
-        rows = [(sub, "")] if sub in table else []
-        for pattern in sorted((it for it in table if it.count("*") == 1), key=lambda it: -it.index("*")):
-            front, _, back = pattern.partition("*")
-            if sub.startswith(front) and sub.endswith(back) and len(sub) >= len(pattern) - 1:
-                rows.append((pattern, sub[len(front):len(sub) - len(back)]))
-        for pattern, star in rows[:1]:
-            for path in paths_of(table[pattern]):
-                path = path.replace("*", star)
-                if path.startswith("./"):
-                    found = self.file_at(joined(place, path))
-                elif key == "imports":
-                    found, _ = self.in_packages(place, path)
-                else:
-                    found = None
-                if found:
-                    return found, None
-            return None, f"{place or '.'}/package.json: what {key} has for {sub} is no file"
-        return None, f"{place or '.'}/package.json: {key} has no {sub}"
+        patterns = self.tables.get((place, key))
+        if patterns is None:
+            patterns = self.tables[place, key] = Patterns(table)
+        pattern, star = patterns.row_of(sub)
+        where = f"{place or '.'}/package.json"
+        if pattern is None:
+            return None, f"{where}: {key} has no {sub}"
+        if any(name in ("..", ".", "node_modules") for name in star.split("/")):
+            return None, f"{where}: what {key} has for {sub} leads out of the package"
+        for path in paths_of(table[pattern], ways):
+            path = path.replace("*", star)
+            if path.startswith("./"):
+                found = self.file_at(joined(place, path), ways)
+            elif key == "imports" and len(asked) < 100:
+                found = "node:" + path.removeprefix("node:") if path.removeprefix("node:") in BUILTINS else self.in_packages(place, path, ways, asked)[0]
+            else:
+                found = None
+            if found:
+                return found, None
+        return None, f"{where}: what {key} has for {sub} is no file"
+
+    # ---- the field browser
+
+    def browser_files(self, place):
+        """What the field `browser` of a package.json has in the place of files: another file, or False for none."""
+        if (place, "browser") not in self.tables:
+            rows, table, ways = {}, self.package(place).get("browser"), Ways(browser=True)
+            for key, value in table.items() if isinstance(table, dict) else ():
+                file = self.file_at(joined(place, key), ways) if key.startswith(".") else key
+                if file and value is False:
+                    rows[file] = False
+                elif file and isinstance(value, str):
+                    rows[file] = self.file_at(joined(place, value), ways) if value.startswith(".") else self.in_packages(place, value, ways)[0]
+            self.tables[place, "browser"] = rows
+        return self.tables[place, "browser"]
+
+    def instead(self, folder, name, ways):
+        """What the field `browser` has in the place of a file or a package, seen from a folder; the name itself where it has nothing."""
+        place = self.scope_of(folder) if ways.browser else None
+        found = self.browser_files(place).get(name, name) if place is not None else name
+        return name if found is None else found
 
 
-def paths_of(value):
-    """The paths of a value of exports, by the conditions."""
-    if isinstance(value, str):
-        yield value
-    elif isinstance(value, list):
-        for item in value:
-            yield from paths_of(item)
-    elif isinstance(value, dict):
-        for condition in value:  # in the order of the package, as Node has it; types last
-            if condition in CONDITIONS and condition != "types":
-                yield from paths_of(value[condition])
-        if "types" in value:
-            yield from paths_of(value["types"])
+class Patterns:
+    """The keys of exports or imports, so that the one for a text is found without looking at each."""
+
+    def __init__(self, table, least=1):
+        self.least = least  # characters for which a * stands
+        self.exact = frozenset(table)
+        self.fronts = collections.defaultdict(list)
+        for key in table:
+            if key.count("*") == 1:
+                front, _, back = key.partition("*")
+                self.fronts[front].append((back, key))
+        for rows in self.fronts.values():
+            rows.sort(key=lambda row: -len(row[0]))
+
+    def row_of(self, text):
+        """The key for a text, and what its * stands for, or None."""
+        if text in self.exact and "*" not in text:
+            return text, ""
+        for count in range(len(text), -1, -1):
+            for back, key in self.fronts.get(text[:count], ()):
+                if text.endswith(back) and len(text) >= count + len(back) + self.least:
+                    return key, text[count:len(text) - len(back)]
+        return None, ""
+
+
+def is_below(path, root):
+    return path == root or path.startswith(root.rstrip(os.sep) + os.sep)
+
+
+def paths_of(value, ways):
+    """The paths of a value of exports, by the conditions, in the order of the package, as Node has it; types are last, or first."""
+    found = list(paths_by(value, ways.conditions - {"types"}))
+    types = list(paths_by(value, ways.conditions | {"types"}, "types"))
+    return types + found if ways.types_first else found + types
+
+
+def paths_by(value, conditions, needed=None):
+    """The paths behind these conditions; where one is needed, those alone behind it."""
+    waiting = [(value, needed is None)]
+    while waiting:
+        item, is_wanted = waiting.pop()
+        if isinstance(item, str) and is_wanted:
+            yield item
+        elif isinstance(item, list):
+            waiting += [(it, is_wanted) for it in reversed(item)]
+        elif isinstance(item, dict):
+            waiting += [(item[name], is_wanted or name == needed) for name in reversed(item) if name in conditions]
 
 
 def package_name(specifier):
     """The package that a bare specifier names, and the rest as ./a, or . where there is none."""
-    found = re.match(r"(@[^/]+/[^/]+|[^@/.][^/]*)(/.*)?$", specifier)
+    found = re.match(r"(@[^/]+/[^/]+|[^@/.][^/]*)(/.*)?$", specifier, re.DOTALL)
     if not found:
         return None, None
     return found[1], "." + (found[2] or "") if found[2] not in (None, "/") else "."
+
+
+def types_name(name):
+    """The package of the types of a package."""
+    return "@types/" + (name[1:].replace("/", "__", 1) if name.startswith("@") else name)
 
 
 def above(folder):
@@ -227,87 +358,6 @@ def above(folder):
         if not folder:
             return
         folder = posixpath.dirname(folder)
-
-
-# ---- tsconfig
-
-
-KINDS = {dict: "object", list: "list", str: "text"}
-
-
-def of_shape(file, value, kind, name):
-    """A value of a file, where it is of this kind."""
-    if not isinstance(value, kind):
-        raise BadFile(f"{file}: {name} is no {KINDS[kind]}")
-    return value
-
-
-def extended(file, name):
-    """The file that a tsconfig extends by this name; None for one of a package that isn't installed."""
-    if name.startswith((".", "/")):
-        path = os.path.normpath(os.path.join(os.path.dirname(file), name))
-        return path if path.endswith(".json") or os.path.isfile(path) else path + ".json"
-    folder = os.path.dirname(os.path.abspath(file))
-    while True:
-        place = os.path.join(folder, "node_modules", name)
-        for path in (place, place + ".json", os.path.join(place, "tsconfig.json")):
-            if os.path.isfile(path):
-                return path
-        if folder == os.path.dirname(folder):
-            return None
-        folder = os.path.dirname(folder)
-
-
-class Paths:
-    """The paths and the baseUrl of a tsconfig, as places in the folder."""
-
-    def __init__(self, folder, file):
-        self.folder = folder
-        self.base = None
-        self.rows = []
-        self.take(file, set())
-
-    def take(self, file, seen):
-        real = os.path.realpath(file)
-        if real in seen:
-            return
-        seen.add(real)
-        value = json_of(file, has_comments=True)
-        extends = of_shape(file, value, dict, "the file").get("extends", [])
-        for other in [extends] if isinstance(extends, str) else of_shape(file, extends, list, "extends"):
-            found = extended(file, of_shape(file, other, str, "extends"))
-            if found:
-                self.take(found, seen)
-        options = of_shape(file, value.get("compilerOptions", {}), dict, "compilerOptions")
-        where = os.path.relpath(os.path.realpath(os.path.dirname(file) or "."), os.path.realpath(self.folder.root)).replace(os.sep, "/")
-        base = of_shape(file, options.get("baseUrl", "."), str, "baseUrl")
-        if "baseUrl" in options:
-            self.base = joined(where, base)
-        if "paths" in options:
-            at, rows = joined(where, base) or "", of_shape(file, options["paths"], dict, "paths")
-            self.rows = [(pattern, [joined(at, of_shape(file, target, str, "paths")) for target in of_shape(file, targets, list, "paths")])
-                         for pattern, targets in rows.items()]
-
-    def file_of(self, specifier):
-        """The file to which a bare specifier leads, or None."""
-        fitting = [row for row in self.rows if fits(row[0], specifier) is not None]
-        for pattern, targets in sorted(fitting, key=lambda row: ("*" in row[0], -len(row[0].partition("*")[0])))[:1]:
-            star = fits(pattern, specifier)
-            for target in targets:
-                found = self.folder.file_at(target.replace("*", star)) if target is not None else None
-                if found:
-                    return found
-        return self.folder.file_at(joined(self.base, specifier)) if self.base is not None else None
-
-
-def fits(pattern, text):
-    """What the * of a pattern stands for in a text; None where the text doesn't fit."""
-    front, star, back = pattern.partition("*")
-    if not star:
-        return "" if text == pattern else None
-    if text.startswith(front) and text.endswith(back) and len(text) >= len(front) + len(back):
-        return text[len(front):len(text) - len(back)]
-    return None
 
 
 # ---- names
@@ -331,35 +381,3 @@ def is_left_out(place, globs):
 
 def is_like_any(names, glob):
     return any(fnmatch.fnmatchcase(name, glob) for name in names)
-
-
-# ---- specifiers of a text
-
-GAP = r"(?:\s|/\*[\s\S]*?\*/|//[^\n]*\n)*"
-LITERAL = r"""("(?:[^"\\\n]|\\.)*"|'(?:[^'\\\n]|\\.)*')"""
-NAMED = re.compile(rf"(?:\bfrom|\bimport){GAP}\(?{GAP}{LITERAL}|\bimport\s+(?:type\s+)?[\w$]+\s*=\s*require\s*\({GAP}{LITERAL}")
-COMMENT = re.compile(r"""(?m)^\s*///\s*<reference\s+(?:[\w-]+\s*=\s*["'][^"'\n]*["']\s+)*?(path|types)\s*=\s*["']([^"'\n]+)["']""")
-ESCAPE = re.compile(r"\\(?:u\{([0-9A-Fa-f]+)\}|u([0-9A-Fa-f]{4})|x([0-9A-Fa-f]{2})|(\r\n|[\s\S]))")
-SINGLE = {"n": "\n", "t": "\t", "r": "\r", "b": "\b", "v": "\v", "f": "\f", "0": "\0", "\n": "", "\r": "", "\r\n": ""}
-
-
-def specifiers_in(text):
-    """The texts by which a source may name other modules, each with whether it is a reference comment: all that do, and
-    some in comments and strings that don't."""
-    found = {}
-    for there in NAMED.finditer(text):
-        literal = (there[1] or there[2])[1:-1]
-        found[ESCAPE.sub(character_of, literal) if "\\" in literal else literal] = None
-    for there in COMMENT.finditer(text):
-        found.setdefault(there[2], there[1])
-    return list(found.items())
-
-
-def character_of(escape):
-    code = escape[1] or escape[2] or escape[3]
-    if code:
-        try:
-            return chr(int(code, 16))
-        except (ValueError, OverflowError):
-            return ""
-    return SINGLE.get(escape[4], escape[4])

@@ -21,6 +21,8 @@ TEMPLATE = re.compile(r"(?:[^`\\$]|\\[\s\S]|\$(?!\{))*(`|\$\{)")
 # Words behind which an expression begins.
 BEFORE = frozenset("""return typeof instanceof in of new delete void throw case do else yield await extends default""".split())
 HEADS = frozenset("if while for with".split())
+LINE_END = re.compile(r"[\n\r]")
+MOST_OPEN = 20
 OPENS, CLOSES = {"(": ")", "[": "]", "{": "}"}, {")": "(", "]": "[", "}": "{"}
 
 
@@ -50,6 +52,7 @@ class Scan:
         self.fault = None
         self.open = []
         self.heads = []
+        self.no_regexps = (0, 0)  # on the line that ends there so many regular expressions had no end
         self.operand = False
         self.read()
 
@@ -74,9 +77,9 @@ class Scan:
             elif kind == "template":
                 kind, stop = self.template(at, "template", "head")
             elif kind == "sign" and text[at] == "/" and not self.operand:
-                found = REGEXP.match(text, at)
+                found = self.regexp(at)
                 if found:
-                    kind, stop = "regexp", found.end()
+                    kind, stop = "regexp", found
             elif kind == "sign" and text[at] == "}" and self.open and self.tokens[self.open[-1]].kind in ("head", "middle"):
                 kind, stop = self.template(at, "tail", "middle")
             self.add(kind, at, stop, line)
@@ -85,8 +88,19 @@ class Scan:
         for number in self.open:
             self.refuse("Unbalanced", self.tokens[number].start)
 
+    def regexp(self, at):
+        """The end of a regular expression, or None; on a line where many have none, none is looked for any more."""
+        end, count = self.no_regexps
+        if at < end and count > MOST_OPEN:
+            return None
+        found = REGEXP.match(self.text, at)
+        if found:
+            return found.end()
+        self.no_regexps = (end, count + 1) if at < end else (self.line_end(at), 1)
+        return None
+
     def line_end(self, at):
-        found = re.compile(r"[\n\r]").search(self.text, at)
+        found = LINE_END.search(self.text, at)
         return found.start() if found else len(self.text)
 
     def template(self, at, whole, part):
@@ -136,4 +150,13 @@ class Scan:
 
 def bytes_before(text, at):
     """How many bytes stand before a character."""
-    return len(text[:at].encode("utf-8", "surrogatepass"))
+    return at if text.isascii() else len(text[:at].encode("utf-8", "surrogatepass"))
+
+
+def byte_places(text, places):
+    """How many bytes stand before each of these characters; each part of the text is looked at once."""
+    found, last, count = {}, 0, 0
+    for at in sorted(set(places)):
+        count += len(text[last:at].encode("utf-8", "surrogatepass"))
+        found[at], last = count, at
+    return found

@@ -7,6 +7,7 @@ prover look for reserved names, which takes as long as all the rest, and which t
 links the prover is a command that does nothing.
 """
 import contextlib
+import fcntl
 import hashlib
 import os
 import re
@@ -49,8 +50,28 @@ class Unable(Failed):
 FAULT = re.compile(r"^\S+\.rt:\d+:\d+: error", re.M)
 
 
+def is_quiet():
+    """Whether nothing is to be said of compiling and of proofs."""
+    return bool(os.environ.get("JORAVELSU_QUIET")) or sys.stderr is None
+
+
+def say_unproved(told):
+    """That the program is the unproved one, once a day."""
+    place = os.path.join(kits.KEPT, "unproved.told")
+    try:
+        if is_quiet() or time.time() - os.stat(place).st_mtime < 86_400:
+            return
+    except OSError:
+        pass
+    print(f"{told}: this is the unproved program; ./graph_tool prove proves and builds it, once, in about an hour (docs/TIMES.md)", file=sys.stderr, flush=True)
+    with contextlib.suppress(OSError), open(place, "w", encoding="utf-8"):
+        pass
+
+
 class Clock:
-    """Tells on a terminal how long something takes, and elsewhere once that it began."""
+    """Tells how long something takes: on a terminal each second, elsewhere in a line each minute."""
+
+    MINUTE = 60
 
     def __init__(self, what, stream=None):
         self.what = what
@@ -59,25 +80,44 @@ class Clock:
 
     def __enter__(self):
         self.start = time.monotonic()
-        if self.stream.isatty():
-            self.thread = threading.Thread(target=self.run, daemon=True)
-            self.thread.start()
-        else:
-            self.thread = None
+        self.thread = None
+        if is_quiet():
+            return self
+        if not self.stream.isatty():
             print(self.what, file=self.stream, flush=True)
+        self.thread = threading.Thread(target=self.run, daemon=True)
+        self.thread.start()
         return self
 
+    def seconds(self):
+        return f"{time.monotonic() - self.start:.0f} s"
+
     def run(self):
-        while not self.ended.wait(1):
-            self.stream.write(f"\r\033[K{self.what}: {time.monotonic() - self.start:.0f} s")
+        is_terminal = self.stream.isatty()
+        while not self.ended.wait(1 if is_terminal else self.MINUTE):
+            self.stream.write(f"\r\033[K{self.what}: {self.seconds()}" if is_terminal else f"{self.what}: {self.seconds()} so far\n")
             self.stream.flush()
 
     def __exit__(self, *_):
         self.ended.set()
         if self.thread:
             self.thread.join()
-            self.stream.write(f"\r\033[K{self.what}: took {time.monotonic() - self.start:.0f} s\n")
+        if self.thread and self.stream.isatty():
+            self.stream.write(f"\r\033[K{self.what}: took {self.seconds()}\n")
             self.stream.flush()
+
+
+@contextlib.contextmanager
+def alone(name, told):
+    """While this goes on no other call compiles what has this name; one that does is waited for."""
+    os.makedirs(kits.KEPT, mode=0o700, exist_ok=True)
+    with open(os.path.join(kits.KEPT, f"{name}.lock"), "w", encoding="utf-8") as file:
+        try:
+            fcntl.flock(file, fcntl.LOCK_EX | fcntl.LOCK_NB)
+        except BlockingIOError:
+            with Clock(f"{told}: another call compiles {name}; this one waits for it"):
+                fcntl.flock(file, fcntl.LOCK_EX)
+        yield
 
 
 def sum_of(crate):
@@ -199,17 +239,28 @@ def linked(made, kit, room):
     return program
 
 
-def compiled(crate, is_test=False, *more):
-    """The path of a crate's program, or of its tests, compiled where that wasn't done of these sources yet."""
-    name = f"{crate}{'-tests' if is_test else ''}{''.join(more)}-{sum_of(crate)}.unproved"
+def used(name):
+    """Where a file is kept, which counts as used now, or None."""
     place = kits.kept(name)
     if place:
         os.utime(place)
+    return place
+
+
+def compiled(crate, is_test=False, *more, told="unproved"):
+    """The path of a crate's program, or of its tests, compiled where that wasn't done of these sources yet."""
+    head = f"{crate}{'-tests' if is_test else ''}{''.join(more)}"
+    name = f"{head}-{sum_of(crate)}.unproved"
+    place = used(name)
+    if place:
         return place
     kit = kits.kit()
-    with a_room() as room:
-        made = linked(object_of(module_of(crate, kit, room, kits.ROOT, is_test), kit, room, *more), kit, room)
-        return kits.keep(made, name, ".unproved", MOST_KEPT)
+    with alone(head, told):
+        if used(name):
+            return used(name)
+        with a_room() as room:
+            made = linked(object_of(module_of(crate, kit, room, kits.ROOT, is_test), kit, room, *more), kit, room)
+            return kits.keep(made, name, ".unproved", MOST_KEPT)
 
 
 def is_compiled(crate, is_test=False):
@@ -224,19 +275,11 @@ def begin(told):
         print(f"{told}: {other}", file=sys.stderr)
 
 
-def program(told="unproved"):
-    """The path of the unproved program, compiled where that wasn't done of these sources yet."""
-    if is_compiled(PROGRAM):
-        return compiled(PROGRAM)
-    begin(told)
-    with Clock(f"{told}: the program is compiled without its proofs, once, in some two minutes"):
-        return compiled(PROGRAM)
-
-
-# The calls of the C library, as a program calls each once, so that the toolchain compiles it.
+# The calls of the C library, as a program calls each once, so that the toolchain compiles it: the program makes them where
+# it has more words than a system gives.
 LIBRARY = "graph_c"
 CALLS = """
-fn main(rt: HostRuntime) {
+fn call_each(rt: &HostRuntime) {
     let _ = joravelsu_version();
     let mut needed: usize = 0;
     let mut answer = Answer { sites: 0, value_bytes: 0, fault: 0, place: 0 };
@@ -250,24 +293,36 @@ fn main(rt: HostRuntime) {
     let _ = joravelsu_exports(rt.alloc(), b"", 3, 0, &mut [], &mut [], &mut exported);
 }
 """
+# Behind this line of the program the calls are made.
+BEHIND = "    let words: Vec<String> = words;\n"
+NEVER = "    if words.as_slice().len() == 4_000_000_000 {\n        call_each(&rt);\n    }\n"
 
 
-def program_of_library(room):
-    """A copy of the sources in which the library is a program that makes each of its calls once."""
-    root = os.path.join(room, "root")
-    below = kits.crates_below(LIBRARY, kits.listed_crates())
+def source(crate, name):
+    with open(os.path.join(kits.ROOT, "crates", crate, "src", name), encoding="utf-8") as file:
+        return file.read()
+
+
+def joined_sources(room):
+    """A copy of the sources in which the library is a program: this one, which makes each of the library's calls."""
+    root, listed = os.path.join(room, "root"), kits.listed_crates()
+    below = kits.crates_below(LIBRARY, listed) | kits.crates_below(PROGRAM, listed) - {PROGRAM}
     for crate in below:
         shutil.copytree(os.path.join(kits.ROOT, "crates", crate, "src"), os.path.join(root, "crates", crate, "src"))
     at = os.path.join(root, "crates", LIBRARY, "src")
-    with open(os.path.join(at, "lib.rt"), encoding="utf-8") as file:
-        text = file.read()
+    main = source(PROGRAM, "main.rt").replace("#![tactic(auto)]\n", "").replace(BEHIND, BEHIND + NEVER)
+    if NEVER not in main:
+        raise Unable(f"{PROGRAM} has no place for the library's calls")
+    main = re.sub(r"(?m)^//!.*\n", "", main).replace("#[cfg(test)]\nmod tests;\n", "")
     with open(os.path.join(at, "main.rt"), "w", encoding="utf-8") as file:
-        file.write(text + CALLS)
+        file.write(source(LIBRARY, "lib.rt") + CALLS + main)
     os.unlink(os.path.join(at, "lib.rt"))
+    shutil.copy(os.path.join(kits.ROOT, "crates", PROGRAM, "src", "adapters.rt"), at)
     with open(os.path.join(kits.ROOT, "crates.txt"), encoding="utf-8") as file:
-        rows = [line.replace(f"{LIBRARY} staticlib:", f"{LIBRARY}:") for line in file if line.split(":")[0].split()[:1] and line.split(":")[0].split()[0] in below]
+        rows = [line for line in file if line.split(":")[0].split()[:1] and line.split(":")[0].split()[0] in below - {LIBRARY}]
+    names = [name for name in dict.fromkeys(listed[LIBRARY] + listed[PROGRAM]) if name != "staticlib"]
     with open(os.path.join(root, "crates.txt"), "w", encoding="utf-8") as file:
-        file.writelines(rows)
+        file.writelines([*rows, f"{LIBRARY}: {' '.join(names)}\n"])
     shutil.copy(os.path.join(kits.ROOT, "HANDLES"), root)
     return root
 
@@ -291,20 +346,37 @@ def with_calls_visible(module, kit, room):
     return made
 
 
-def library(told="build-library"):
-    """The path of the object file of the unproved library, compiled where that wasn't done of these sources yet."""
-    name = f"{LIBRARY}-{sum_of(LIBRARY)}.unproved.o"
-    place = kits.kept(name)
-    if place:
-        os.utime(place)
-        return place
+def name_of_library():
+    return f"{LIBRARY}-{sum_of(LIBRARY)}.unproved.o"
+
+
+def compile_both(told):
+    """The program and the library, compiled in one go and kept."""
     begin(told)
     kit = kits.kit()
-    with a_room() as room:
-        with Clock(f"{told}: the library is compiled without its proofs, once, in some two minutes"):
-            module = module_of(LIBRARY, kit, room, program_of_library(room))
-            made = object_of(with_calls_visible(module, kit, room), kit, room, "-fPIC")
-        return kits.keep(made, name, ".unproved.o")
+    with a_room() as room, Clock(f"{told}: the program and the library are compiled without their proofs, once, in some three minutes"):
+        module = module_of(LIBRARY, kit, room, joined_sources(room))
+        kits.keep(linked(object_of(module, kit, room), kit, room), f"{PROGRAM}-{sum_of(PROGRAM)}.unproved", ".unproved", MOST_KEPT)
+        kits.keep(object_of(with_calls_visible(module, kit, room), kit, room, "-fPIC"), name_of_library(), ".unproved.o")
+
+
+def program(told="unproved"):
+    """The path of the unproved program, compiled where that wasn't done of these sources yet."""
+    return made(f"{PROGRAM}-{sum_of(PROGRAM)}.unproved", told)
+
+
+def library(told="build-library"):
+    """The path of the object file of the unproved library, compiled where that wasn't done of these sources yet."""
+    return made(name_of_library(), told)
+
+
+def made(name, told):
+    if used(name):
+        return used(name)
+    with alone("joravelsu", told):
+        if not used(name):
+            compile_both(told)
+        return used(name)
 
 
 def stop(_number, _frame):
@@ -326,7 +398,8 @@ def main():
         if sys.argv[1:] == ["--library"]:
             print(library())
             return 0
-        print(program(sys.argv[1] if len(sys.argv) > 1 else "graph_tool"))
+        print((kits.release() or {}).get("program") or program("graph_tool"))
+        say_unproved("graph_tool")
     except (Failed, kits.NoKit, OSError) as failed:
         print(f"graph_tool: {failed}", file=sys.stderr)
         return 70

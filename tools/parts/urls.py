@@ -9,6 +9,7 @@ KEPT = "!$&'()*+,/:;=@[]|%\\"
 KEPT_OF_FILE = "!$&'()*+,/:;=@[]|"
 OF_HOST = re.compile(r'[\x00-\x20"#%/:<>?@\[\\\]^`{|}\x7f]')
 URL = re.compile(r"[A-Za-z][A-Za-z0-9+.-]*:")
+BLANKS = "".join(map(chr, range(0x21)))
 
 
 class NoUrl(Exception):
@@ -24,7 +25,8 @@ def path_of(text, special):
     for number, segment in enumerate(segments):
         dots = segment.lower().replace("%2e", ".")
         if dots == "..":
-            kept = kept[:-1]
+            if kept:
+                kept.pop()
         elif dots != ".":
             kept.append(segment)
             continue
@@ -87,8 +89,8 @@ def host_of(authority, scheme):
 
 
 def plain(text):
-    """A text without what the URL Standard takes away before it reads."""
-    return re.sub(r"[\t\n\r]", "", re.sub(r"^[\x00-\x20]+|[\x00-\x20]+$", "", text))
+    """A text without what the URL Standard takes away before it reads; half of a pair stands for no character."""
+    return re.sub("[\ud800-\udfff]", "\ufffd", re.sub(r"[\t\n\r]", "", text.strip(BLANKS)))
 
 
 def url_of(text):
@@ -130,10 +132,15 @@ def of_file(path):
 
 
 def to_file(url):
-    """The path from that folder of a file: URL without a host, a query and a fragment, or None."""
-    if not url.startswith("file:///") or "?" in url or "#" in url:
+    """The path from that folder of a file: URL without a host, or None; its query and its fragment don't count. None where a
+    name has an encoded / or leads up, as Node has it."""
+    if not url.startswith("file:///"):
         return None
+    names = re.split(r"[?#]", url[len("file:///"):], maxsplit=1)[0].split("/")
     try:
-        return unquote(url[len("file:///"):], errors="strict")
+        names = [unquote(name, errors="strict") for name in names]
     except UnicodeDecodeError:
         return None
+    if any("/" in name or "\0" in name or name in (".", "..") for name in names):
+        return None
+    return "/".join(names)

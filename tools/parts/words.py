@@ -1,7 +1,11 @@
-"""How the tools read their words and files, and how they end."""
+"""How the tools read their words and files, what they write, and how they end."""
 import argparse
 import os
+import stat
 import sys
+
+# The most bytes that the program reads, and so the most of one file.
+MOST_BYTES = 16_777_216
 
 
 class Wrong(Exception):
@@ -16,6 +20,55 @@ class Words(argparse.ArgumentParser):
 
     def error(self, message):
         self.exit(64, f"{self.format_usage()}{self.prog}: {message}\n")
+
+
+# ---- names on a terminal
+
+
+def escaped(character):
+    """A character that a terminal may act on, as an escape: a control character, a direction mark, half of a pair, a byte
+    of a name that is no UTF-8."""
+    code = ord(character)
+    return f"\\x{code - 0xDC00:02x}" if 0xDC80 <= code <= 0xDCFF else repr(character)[1:-1]
+
+
+def plain(text, keeps=""):
+    """A text on one line, each character that can't be seen as an escape."""
+    text = os.fsdecode(text) if isinstance(text, bytes) else text
+    return text if text.isprintable() else "".join(c if c.isprintable() or c in keeps else escaped(c) for c in text)
+
+
+def plain_lines(lines):
+    """The bytes of lines for a terminal: nothing in a line ends it or does something else there."""
+    return "".join(plain(line, "\t") + "\n" for line in lines).encode("utf-8", "backslashreplace")
+
+
+def say(who, text):
+    """Lines on standard error."""
+    if sys.stderr is not None:
+        sys.stderr.write("".join(plain(line, "\t") + "\n" for line in f"{who}: {text}".split("\n")))
+        sys.stderr.flush()
+
+
+# ---- files
+
+
+def read_regular(path, most=MOST_BYTES):
+    """The bytes of a regular file of at most so many; nothing else is read, and nothing waits."""
+    try:
+        number = os.open(path, os.O_RDONLY | os.O_NONBLOCK | os.O_CLOEXEC)
+        with os.fdopen(number, "rb") as file:
+            found = os.fstat(number)
+            if not stat.S_ISREG(found.st_mode):
+                raise Wrong(f"{plain(path)}: {'a folder' if stat.S_ISDIR(found.st_mode) else 'no regular file'}")
+            data = file.read(most + 1) if found.st_size <= most else b""
+    except OSError as error:
+        raise Wrong(f"{plain(path)}: {error.strerror}") from error
+    except ValueError as error:  # a name with a null character
+        raise Wrong(f"{plain(path)}: {error}") from error
+    if found.st_size > most or len(data) > most:
+        raise Wrong(f"{plain(path)}: too large: {max(found.st_size, len(data)):,} bytes, and at most {most:,} are read")
+    return data
 
 
 def bytes_of(path):
@@ -52,14 +105,17 @@ def run(name, main, wrong=1):
     try:
         sys.exit(main(sys.argv[1:]))
     except Wrong as error:
-        print(f"{name}: {error}", file=sys.stderr)
+        say(name, str(error))
         status = wrong
     except BrokenPipeError:
-        print(f"{name}: standard output was closed", file=sys.stderr)
+        say(name, "standard output was closed")
         status = wrong
     except KeyboardInterrupt:
-        print(f"{name}: stopped", file=sys.stderr)
+        say(name, "stopped")
         status = 130
+    except MemoryError:
+        say(name, "memory ran out")
+        status = wrong
     if sys.stdout is not None:
         os.dup2(os.open(os.devnull, os.O_WRONLY), 1)  # what is still to be written when Python ends
     sys.exit(status)

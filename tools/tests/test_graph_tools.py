@@ -8,10 +8,11 @@ import unittest
 
 TOOLS = os.path.dirname(os.path.dirname(os.path.abspath(__file__)))
 sys.path.insert(0, TOOLS)
-from parts import bundles, kit, report, resolve, scan, urls  # noqa: E402
+from parts import bundles, kit, report, resolve, scan, settings, tsconfig, urls  # noqa: E402
 
 unread = kit.tool("unread")
 prove = kit.tool("prove")
+WAYS = resolve.Ways()
 REPORT = """root file:///a.ts
 import file:///deno.json referrer - "./a.ts" - -> file:///a.ts
 file:///a.ts module TypeScript 10
@@ -177,12 +178,12 @@ class Resolve(unittest.TestCase):
             ("src", "#q", "src/q.ts"), ("src", "me", "src/q.ts"), ("", "none", None), ("", "@s", None),
         ]
         for folder, specifier, place in rows:
-            self.assertEqual(self.folder.in_packages(folder, specifier)[0], place, specifier)
+            self.assertEqual(self.folder.in_packages(folder, specifier, WAYS)[0], place, specifier)
 
     def test_tsconfig(self):
-        paths = resolve.Paths(self.folder, self.folder.path("tsconfig.json"))
+        paths = tsconfig.Paths(self.folder, self.folder.path("tsconfig.json"))
         for specifier, place in (("@/q", "src/q.ts"), ("exact", "src/q.ts"), ("q", "src/q.ts"), ("@/none", None), ("other", None)):
-            self.assertEqual(paths.file_of(specifier), place, specifier)
+            self.assertEqual(paths.file_of(specifier, WAYS), place, specifier)
 
     def put(self, path, text):
         place = self.folder.path(path)
@@ -195,8 +196,8 @@ class Resolve(unittest.TestCase):
         self.put("node_modules/@t/one/tsconfig.json", '{"compilerOptions": {"paths": {"p": ["../../../src/q.ts"]}}}')
         self.put("node_modules/two/strict.json", '{"extends": "@t/one"}')
         for extends, place in (('"@t/one"', "src/q.ts"), ('"two/strict.json"', "src/q.ts"), ('["none", "two/strict"]', "src/q.ts"), ('"none"', None)):
-            paths = resolve.Paths(self.folder, self.put("other.json", f'{{"extends": {extends}}}'))
-            self.assertEqual(paths.file_of("p"), place, extends)
+            paths = tsconfig.Paths(self.folder, self.put("other.json", f'{{"extends": {extends}}}'))
+            self.assertEqual(paths.file_of("p", WAYS), place, extends)
 
     def test_tsconfig_of_another_shape(self):
         for text, said in (
@@ -205,8 +206,8 @@ class Resolve(unittest.TestCase):
             ('{"compilerOptions": {"paths": {"a": "b"}}}', "paths is no list"), ('{"compilerOptions": {"baseUrl": 1}}', "baseUrl is no text"),
             ('{"compilerOptions": {"paths": []}}', "paths is no object"), ("{", "no JSON"),
         ):
-            with self.assertRaisesRegex(resolve.BadFile, said):
-                resolve.Paths(self.folder, self.put("other.json", text))
+            with self.assertRaisesRegex(settings.BadFile, said):
+                tsconfig.Paths(self.folder, self.put("other.json", text))
 
 
 class Parts(unittest.TestCase):
@@ -218,7 +219,7 @@ class Parts(unittest.TestCase):
     def test_lines(self):
         source = bundles.Source("\ufeffaé\r\nb\n\nc".encode())
         self.assertEqual([source.place(at) for at in (0, 1, 3, 5, 7, 8)], [(1, 1), (1, 2), (1, 3), (2, 1), (3, 1), (4, 1)])
-        self.assertEqual([source.line(number) for number in (1, 2, 3, 4)], ["aé", "b", "", "c"])
+        self.assertEqual([source.line(number)[0] for number in (1, 2, 3, 4)], ["aé", "b", "", "c"])
 
     def test_mates(self):
         tokens = scan.Scan("f(`a${[b]}c${d}`, { e })").tokens

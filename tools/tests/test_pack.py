@@ -40,7 +40,7 @@ class Pack(unittest.TestCase):
 
     def assert_refused(self, line, *words):
         status, out, errors = run(*words, cwd=self.room)
-        self.assertEqual((status, out, errors), (1, b"", line + "\n"))
+        self.assertEqual((status, out, errors), (2, b"", line + "\n"))
 
     def test_specifiers(self):
         rows = [
@@ -75,12 +75,15 @@ class Pack(unittest.TestCase):
         self.assertEqual(self.specifiers("--all", "--also", "css", "--also", ".txt", self.folder, "main.ts"), [css, text, other, main])
         self.assertEqual(self.specifiers("--all", "--also", "*", self.folder, "main.ts"), [css, text, other, main, plain])
         self.put("main.ts", b"import './a.css'; import './noending'; import './.hidden'")
-        self.assertEqual(self.specifiers(), ["file:///.hidden.ts", main, "file:///.hidden"])
-        self.assertEqual(self.specifiers("--also", ".css", self.folder, "main.ts"), ["file:///.hidden.ts", css, main, "file:///.hidden"])
+        self.assertEqual(self.specifiers(), ["file:///.hidden.ts", main])
+        self.assertEqual(self.specifiers("--also", ".css", self.folder, "main.ts"), ["file:///.hidden.ts", css, main])
 
-    def redirects(self, *words):
-        return {module["specifier"].removeprefix("file:///"): module["redirect"].removeprefix("file:///")
-                for module in self.bundle(*words)["modules"] if "redirect" in module}
+    def leads(self, *words):
+        """Where URLs of files and bare specifiers lead, by the import map's imports and by redirects."""
+        bundle = self.bundle(*words)
+        rows = {**bundle.get("importMap", {}).get("map", {}).get("imports", {}),
+                **{module["specifier"]: module["redirect"] for module in bundle["modules"] if "redirect" in module}}
+        return {key.removeprefix("file:///"): url.removeprefix("file:///") for key, url in rows.items()}
 
     def test_only_what_is_reached(self):
         for name in ("a.ts", "b.ts", "c.ts", "d.d.ts", "e.js", "f.json", "g.wasm", "no.ts", "sub/h.ts", "i.ts", "j.ts", "k.ts"):
@@ -90,24 +93,30 @@ class Pack(unittest.TestCase):
              './c.ts'); import e = require('./e.js'); import f from './f.json' with { type: 'json' }; import './g.wasm';
             import * as h from "./sub/\\x68.ts"; export { i } from'./i.ts'; type J = import('./j.ts').J; require('./no.ts'); let k = './no.ts'""")
         found = {it.removeprefix("file:///") for it in self.specifiers()}
-        self.assertEqual(found, {"a.ts", "b.ts", "c.ts", "d.d.ts", "e.js", "f.json", "g.wasm", "sub/h.ts", "i.ts", "j.ts", "main.ts"})
+        self.assertEqual(found, {"a.ts", "b.ts", "c.ts", "d.d.ts", "e.js", "f.json", "g.wasm", "sub/h.ts", "i.ts", "main.ts"})
 
     def test_endings(self):
+        wanted, main = {}, ""
         for ending in (".ts", ".tsx", ".mts", ".cts", ".d.ts", ".js", ".mjs", ".cjs", ".jsx", ".json"):
             self.put("of" + ending + "/x" + ending, b"")
             self.put("in" + ending + "/y/index" + ending, b"")
-            self.put("main.ts", f"import './of{ending}/x'; import './in{ending}/y'; import './in{ending}/y/'".encode())
-            self.assertEqual(self.redirects(), {
-                f"of{ending}/x": f"of{ending}/x{ending}", f"in{ending}/y": f"in{ending}/y/index{ending}",
-                f"in{ending}/y/": f"in{ending}/y/index{ending}"})
+            main += f"import './of{ending}/x'; import './in{ending}/y'; import './in{ending}/y/';"
+            wanted.update({f"of{ending}/x": f"of{ending}/x{ending}", f"in{ending}/y": f"in{ending}/y/index{ending}", f"in{ending}/y/": f"in{ending}/y/index{ending}"})
+        self.put("main.ts", main.encode())
+        self.assertEqual(self.leads(), wanted)
+        redirects = [module["specifier"] for module in self.bundle()["modules"] if "redirect" in module]
+        self.assertEqual(sorted(redirects), sorted("file:///" + key for key in wanted if key.endswith("/")))
         for name in ("a.ts", "a.js", "b.d.ts", "b.js", "c/index.ts", "c.ts", "d.tsx", "e.mts", "f.cts", "g.jsx.ts", "g.tsx", "h.d.mts", "i/i.ts"):
             self.put(name, b"")
         self.put("i/package.json", b'{"main": "./i.js"}')
         self.put("main.ts", b"import './a'; import './b'; import './c'; import './d.js'; import './e.mjs'; import './f.cjs'; import './g.jsx';"
-                            b"import './h.mjs'; import './a.js'; import './i'; import '/c'; import './none'")
-        wanted = {"a": "a.ts", "b": "b.d.ts", "c": "c.ts", "d.js": "d.tsx", "e.mjs": "e.mts", "f.cjs": "f.cts", "g.jsx": "g.jsx.ts", "h.mjs": "h.d.mts", "i": "i/i.ts"}
-        self.assertEqual(self.redirects(), wanted)
-        self.assertEqual(self.redirects("--kind", "code", self.folder, "main.ts"), {**wanted, "b": "b.js"})
+                            b"import './h.mjs'; import './a.js'; import './i'; import './c'; import './none'")
+        wanted = {"a": "a.ts", "b": "b.js", "c": "c.ts", "d.js": "d.tsx", "e.mjs": "e.mts", "f.cjs": "f.cts", "g.jsx": "g.jsx.ts", "h.mjs": "h.d.mts", "i": "i/i.ts"}
+        self.assertEqual(self.leads(), wanted)
+        self.assertEqual(self.bundle()["imports"], [{"referrer": "file:///b.js", "imports": ["./b.d.ts"]}])
+        self.assertEqual(self.leads("--kind", "code", self.folder, "main.ts"), wanted)
+        self.assertNotIn("imports", self.bundle("--kind", "code", self.folder, "main.ts"))
+        self.assertEqual(self.leads("--kind", "types", self.folder, "main.ts"), {**wanted, "b": "b.d.ts"})
 
     def test_external(self):
         self.put("main.ts", b"import 'node:fs'; import 'https://a.test/b.js'; import './gen/x.ts'")
@@ -126,12 +135,12 @@ class Pack(unittest.TestCase):
 
     def test_of_very_many_the_commonest_are_told(self):
         names = [f"p{number:02}" for number in range(50)]
-        self.put("main.ts", "".join(f"import '{name}'; " for name in names).encode() + b"a from ' + b + '; import '!==a&&'; import './b.ts'")
+        self.put("main.ts", "".join(f"import '{name}'; " for name in names).encode() + b"/* a from ' + b + ' */ import '!==a&&'; import './b.ts'")
         self.put("b.ts", b"import 'p49'; import 'p48'")
         errors = run(self.folder, "main.ts")[2].splitlines()
-        self.assertEqual(errors[-1], "pack: 10 more lead nowhere")
+        self.assertEqual(errors[-1], "pack: 11 more lead nowhere")
         told = [line.split('"')[1] for line in errors[:-1]]
-        self.assertEqual(told, sorted(names[:38] + ["p48", "p49"]))
+        self.assertEqual(told, sorted(["!==a&&"] + names[:37] + ["p48", "p49"]))
         self.assertIn('pack: "p49" in main.ts and 1 more leads nowhere: packages are read by --packages', errors)
 
     def test_output_file(self):
@@ -167,12 +176,12 @@ class Pack(unittest.TestCase):
     def test_too_large(self):
         self.put("a.wasm", bytes(12_582_912))  # its base64 alone has 16,777,216 bytes
         status, out, errors = run(self.folder, "a.wasm")
-        self.assertEqual((status, out), (1, b""))
+        self.assertEqual((status, out), (2, b""))
         self.assertRegex(errors, r"^pack: too large: 16,777,[0-9]{3} bytes, and the program reads at most 16,777,216; --exclude leaves out; the largest of 1 files:\n +12,582,912  a.wasm\n$")
         self.put("b.wasm", bytes(12_582_912))
         self.put("main.ts", b"import './a.wasm'; import './b.wasm'")
         status, out, errors = run(self.folder, "main.ts")
-        self.assertEqual((status, errors.split("\n")[0]), (1, "pack: too large: 25,165,860 bytes, and the program reads at most 16,777,216; --exclude leaves out; the largest of 3 files:"))
+        self.assertEqual((status, errors.split("\n")[0]), (2, "pack: too large: 25,165,860 bytes, and the program reads at most 16,777,216; --exclude leaves out; the largest of 3 files:"))
 
     def test_left_out(self):
         os.symlink("nowhere.ts", os.path.join(self.folder, "dangling.ts"))
@@ -190,7 +199,7 @@ class Pack(unittest.TestCase):
         self.assertEqual([module["specifier"] for module in json.loads(out)["modules"]], ["file:///link.ts", "file:///main.ts"])
 
     def test_bare_specifiers_that_lead_nowhere_are_told(self):
-        self.put("main.ts", b"import 'react'; throw 'away from ' + a + 'b';")
+        self.put("main.ts", b"import 'react'; throw 'away from ' + a + 'b'; // import 'vue'\n`import 'd3'`; /import 'three'/; a.import('four')")
         errors = run(self.folder, "main.ts")[2]
         self.assertEqual(errors, 'pack: "react" in main.ts leads nowhere: packages are read by --packages\n')
 
@@ -203,12 +212,12 @@ class Pack(unittest.TestCase):
     def test_output_that_fails(self):
         for target, line in (("exec >&-;", "pack: standard output was closed"), ("exec >/dev/full;", "pack: standard output: No space left on device")):
             done = subprocess.run(["bash", "-c", f'{target} "$@"', "-", PACK, self.folder, "main.ts"], capture_output=True)
-            self.assertEqual((done.returncode, done.stderr.decode()), (1, line + "\n"))
+            self.assertEqual((done.returncode, done.stderr.decode()), (2, line + "\n"))
         reading, writing = os.pipe()
         os.close(reading)
         done = subprocess.run([PACK, self.folder, "main.ts"], stdout=writing, stderr=subprocess.PIPE)
         os.close(writing)
-        self.assertEqual((done.returncode, done.stderr), (1, b"pack: standard output was closed\n"))
+        self.assertEqual((done.returncode, done.stderr), (2, b"pack: standard output was closed\n"))
 
     def test_progress(self):
         """On a terminal, and only where it takes long: the clock of the tool is put forward."""

@@ -1,0 +1,512 @@
+"""Bundles of folders: which files the graph of some roots has, and where each of their specifiers leads."""
+import base64
+import collections
+import json
+import os
+import posixpath
+import time
+
+from parts import import_maps, resolve, sites, tsconfig, urls
+from parts.words import MOST_BYTES, Wrong, plain, read_regular, say
+
+ENDINGS = sites.SOURCES + (".json", ".wasm")
+USUAL_LIMIT = 10_000
+# How many lines tell what was left out, and what leads nowhere.
+MOST_TOLD = 40
+LARGEST = 10
+
+Lead = collections.namedtuple("Lead", "place url external reason note", defaults=(None, None, None, None, None))
+Lead.__doc__ = """Where a specifier leads. place: a file of the folder. url: what else it is mapped to. external: whether that is
+no part of the sources. reason: why it leads nowhere. note: what is told of it all the same."""
+
+
+class Progress:
+    """How many files were read, on a terminal alone, and not before half a second has passed."""
+
+    def __init__(self, stream):
+        self.stream = stream if stream.isatty() else None
+        self.next = time.monotonic() + 0.5
+        self.shown = False
+
+    def tell(self, count, size):
+        if self.stream and time.monotonic() >= self.next:
+            self.next = time.monotonic() + 0.2
+            self.shown = True
+            self.stream.write(f"\r\033[Kpack: {count:,} files, {size:,} bytes")
+            self.stream.flush()
+
+    def end(self):
+        if self.shown:
+            self.stream.write("\r\033[K")
+            self.stream.flush()
+            self.shown = False
+
+
+def is_utf8(name):
+    try:
+        name.encode("utf-8")
+    except UnicodeEncodeError:
+        return False
+    return True
+
+
+def in_order(place):
+    """A key by which the files of a folder come before its folders."""
+    *folders, name = place.split("/")
+    return [*((1, folder) for folder in folders), (0, name)]
+
+
+def content_of(place, data):
+    """What a bundle has for a file."""
+    try:
+        if not place.lower().endswith(".wasm"):
+            return {"text": data.decode("utf-8")}
+    except UnicodeDecodeError:
+        pass
+    return {"base64": base64.b64encode(data).decode("ascii")}
+
+
+class Resolver:
+    """Where the specifiers in the files of a folder lead, as asked."""
+
+    def __init__(self, asked, folder):
+        self.asked = asked
+        self.folder = folder
+        self.paths = tsconfig.Paths(folder, asked.tsconfig) if asked.tsconfig else None
+        self.map, self.told = import_maps.of_deno(folder, asked.deno) if asked.deno else (None, None)
+        self.ways = resolve.Ways(asked.conditions, asked.browser, asked.kind == "types")
+        self.known = {}
+
+    def lead(self, place, site, ways=None):
+        """Where a site of a file leads."""
+        ways = ways or self.ways
+        reference = site.kind if site.kind.startswith("reference-") else None
+        key = posixpath.dirname(place), site.value, reference, ways.types_first
+        if key not in self.known:
+            self.known[key] = self.found(place, site.value, reference, ways)
+        return self.known[key]
+
+    def found(self, place, specifier, reference, ways):
+        if len(specifier) > resolve.LONGEST:
+            return Lead(reason=f"it has more than {resolve.LONGEST:,} characters, and no file has such a path")
+        if self.map:
+            found = self.map.resolve(specifier, urls.of_file(place))
+            if found is False:
+                return Lead(reason="the import map of deno.json refuses it")
+            if found is not None:
+                return self.at_url(found, specifier, ways)._replace(url=found)
+        if specifier.startswith(("./", "../", "/")):
+            return self.at_path(place, specifier, ways)
+        if urls.URL.match(specifier):
+            return self.at_url(specifier, specifier, ways)
+        return self.at_name(place, specifier, reference, ways)
+
+    def at_path(self, place, specifier, ways):
+        if resolve.is_like(specifier, self.asked.external):
+            return Lead(external=True)
+        if resolve.joined(posixpath.dirname(place), specifier.split("?")[0].split("#")[0]) is None and not specifier.startswith("/"):
+            return Lead(reason="it leads out of the folder")
+        try:
+            url = urls.joined(urls.of_file(place), specifier)
+        except urls.NoUrl as error:
+            return Lead(reason=str(error))
+        lead = self.at_file(url, ways)
+        return self.in_this_folder(lead, "a path that begins with / begins at the folder") if specifier.startswith("/") else lead
+
+    @staticmethod
+    def in_this_folder(lead, why):
+        """A lead of what names a place of the disk, and is taken for one of the folder."""
+        return lead._replace(note=why) if lead.place else lead._replace(reason=f"{lead.reason}; {why}")
+
+    def at_url(self, specifier, written, ways):
+        try:
+            url = urls.url_of(specifier)
+        except urls.NoUrl as error:
+            return Lead(reason=str(error))
+        if url.startswith("node:") or resolve.is_like(written, self.asked.external) or resolve.is_like(url, self.asked.external):
+            return Lead(external=True)
+        if url.startswith(("http:", "https:")):
+            return Lead(reason=f"nothing is fetched: --external '{url.partition(':')[0]}://*' says that it is no part of the sources")
+        if not url.startswith("file:"):
+            return Lead()
+        lead = self.at_file(url, ways)
+        return self.in_this_folder(lead, "a file: URL begins at the folder") if specifier is written else lead
+
+    def at_file(self, url, ways):
+        path = urls.to_file(url)
+        if path is None:
+            return Lead(reason="an encoded / or .. stands in it, and it names no file")
+        at = posixpath.normpath("/" + path.lstrip("/"))[1:]
+        found = self.folder.file_at(at, ways) or (self.paths.in_root_dirs(at, ways) if self.paths else None)
+        if not found:
+            return Lead(reason=self.folder.why_none(at) or "there is no such file, as it is written, with an ending, or as a folder")
+        return self.instead_of(found, ways)
+
+    def instead_of(self, found, ways):
+        """A file, or what the field `browser` of its package has in its place."""
+        other = self.folder.instead(posixpath.dirname(found), found, ways)
+        return Lead(other) if other else Lead(external=True)
+
+    def at_name(self, place, specifier, reference, ways):
+        """A bare specifier, which only an import map makes lead somewhere."""
+        folder = posixpath.dirname(place)
+        if resolve.is_like(specifier, self.asked.external):
+            return Lead(external=True)
+        if specifier in (".", "..") or reference == "reference-path":
+            found = self.folder.file_at(resolve.joined(folder, specifier), ways)
+            return Lead(found, reason=None if found else "there is no such file")
+        found = self.paths.file_of(specifier, ways) if self.paths else None
+        if found:
+            return Lead(found)
+        if self.asked.packages:
+            lead = self.in_packages(folder, specifier, reference, ways)
+            if lead.place or lead.external or specifier not in resolve.BUILTINS:
+                return lead
+        if specifier in resolve.BUILTINS:
+            return Lead(url="node:" + specifier, external=True)
+        return Lead(reason="packages are read by --packages")
+
+    def in_packages(self, folder, specifier, reference, ways):
+        other = self.folder.instead(folder, specifier, ways)
+        if other is False:
+            return Lead(external=True)
+        if other != specifier:
+            return Lead(other)
+        if specifier in resolve.BUILTINS:
+            return Lead()
+        name, _ = resolve.package_name(specifier)
+        types = name and (reference == "reference-types" or ways.types_first)
+        found, why = self.folder.in_packages(folder, specifier, ways)
+        if types and not (found and (sites.is_typescript(found) or reference)):
+            typed, _ = self.folder.in_packages(folder, resolve.types_name(name) + specifier[len(name):], ways)
+            found = typed or found
+        if found and found.startswith("node:"):
+            return Lead(url=found, external=True)
+        return self.instead_of(found, ways) if found else Lead(reason=why)
+
+
+class Packer:
+    """The bundle as it grows."""
+
+    def __init__(self, asked, reader, errors):
+        self.asked = asked
+        self.reader = reader
+        self.errors = errors
+        self.folder = resolve.Folder(asked.folder, asked.links_out)
+        self.resolver = Resolver(asked, self.folder)
+        self.endings = ENDINGS + tuple("." + ending.lstrip(".").lower() for ending in asked.also)
+        self.takes_any = "*" in asked.also
+        self.contents = {}  # what the bundle would have for each file that was read
+        self.sizes = {}
+        self.sites = {}
+        self.taken = set()  # the files of the bundle
+        self.of_data = set()  # the data: URLs that were walked
+        self.maps = collections.defaultdict(dict)  # of a specifier, or a URL that is no file's: its URL by the file that names it
+        self.redirects = {}
+        self.external = {}
+        self.types = {}  # from a file of JavaScript to its declaration
+        self.left_out = {}
+        self.notes = {}
+        self.nowhere = collections.defaultdict(list)  # specifiers that lead nowhere: where, and why
+        self.reasons = {}  # why a URL or a bare specifier leads nowhere
+        self.leads_out = None  # the first place at which a specifier leads out of the folder
+
+    # ---- files
+
+    def why_left_out(self, place):
+        """Why a file is no module of the bundle, or None."""
+        if not is_utf8(place):
+            return "its name is no UTF-8"
+        if resolve.is_left_out(place, self.asked.exclude):
+            return "excluded"
+        if not (self.takes_any or place.lower().endswith(self.endings)):
+            return "its ending"
+        return None
+
+    def load(self, place):
+        """Reads a file, where that wasn't done yet."""
+        if place in self.contents:
+            return
+        data = read_regular(self.folder.path(place))
+        self.sizes[place] = len(data)
+        self.contents[place] = content_of(place, data)
+
+    def take(self, places):
+        """Packs these files and all to which the graph leads from them."""
+        progress, waiting, size = Progress(self.errors), list(places), 0
+        try:
+            while waiting:
+                new = [place for place in dict.fromkeys(waiting) if place not in self.taken]
+                for place in new:
+                    self.load(place)
+                    self.taken.add(place)
+                    size += self.sizes[place]
+                    self.refuse_size(size)
+                    progress.tell(len(self.taken), size)
+                self.read_sites(new)
+                waiting = [found for place in new for found in self.named_by(place)]
+        finally:
+            progress.end()
+
+    def read_sites(self, places):
+        """The sites of these files, and of those that they likely lead to."""
+        unread = [place for place in places if place not in self.sites]
+        if not unread:
+            return
+        for place in unread:
+            self.sites[place] = ()
+        ahead, size = list(unread), sum(self.sizes.values())
+        while ahead and size <= MOST_BYTES:
+            place = ahead.pop()
+            for value in sites.hints_in(self.contents[place].get("text", "")) if sites.is_source(place) else ():
+                found = self.resolver.lead(place, sites.Site("import", value)).place
+                if found and found not in self.sites and self.why_left_out(found) is None and self.may_load(found):
+                    self.sites[found] = ()
+                    size += self.sizes[found]
+                    unread.append(found)
+                    ahead.append(found)
+        self.sites.update(self.reader.read({place: self.contents[place] for place in unread}))
+
+    def may_load(self, place):
+        try:
+            self.load(place)
+        except Wrong:
+            return False
+        return True
+
+    def named_by(self, place):
+        """The files to which a file leads."""
+        for site in self.sites[place]:
+            lead = self.lead(place, site)
+            self.put(place, site, lead)
+            if site.value.startswith("data:"):
+                yield from self.named_by_data(place, site.value)
+            follows = sites.is_followed(self.asked.kind, place, site)
+            if lead.reason and follows:
+                self.leads_nowhere(place, site, lead)
+            if lead.note and follows:
+                self.notes.setdefault(site.value, (place, lead))
+            yield from self.files_of(place, lead) if follows else ()
+
+    def lead(self, place, site):
+        """Where a site leads: from a declaration first to declarations, but in a graph of code."""
+        if sites.is_declaration(place) and self.asked.kind != "code":
+            return self.resolver.lead(place, site, self.resolver.ways.turned(True))
+        return self.resolver.lead(place, site)
+
+    def files_of(self, place, lead):
+        """The file of a lead, where it is packed, and the declaration beside it where the graph has types too."""
+        found = lead.place
+        if not found:
+            return
+        reason = self.why_left_out(found)
+        if reason is None:
+            yield found
+        else:
+            self.is_left_out(found, reason)
+        if self.asked.kind in (None, "all") and sites.is_typescript(place) and "node_modules" not in found.split("/"):
+            declaration = self.folder.declaration_of(found)
+            if declaration and reason is None and self.why_left_out(declaration) is None:
+                self.types[found] = declaration
+                yield declaration
+
+    def is_left_out(self, found, reason):
+        if reason != "its ending":
+            self.left_out[found] = reason
+        ending = posixpath.splitext(found)[1]
+        hint = f"--also {ending or '*'} takes it, --external '*{ending}' leaves it out" if reason == "its ending" else reason
+        self.reasons[urls.of_file(found)] = f"the file is there, and isn't packed: {hint}"
+
+    def named_by_data(self, place, url):
+        """The files that a data: URL names by URLs of their own."""
+        waiting = [url]
+        while waiting:
+            at = waiting.pop()
+            if at in self.of_data:
+                continue
+            self.of_data.add(at)
+            for site in self.reader.of_data.get(at, ()):
+                if site.value.startswith("data:"):
+                    waiting.append(site.value)
+                elif urls.URL.match(site.value):
+                    lead = self.resolver.lead("", site)
+                    self.put(place, site, lead)
+                    yield from self.files_of("", lead)
+
+    # ---- what the program is told of a specifier
+
+    def put(self, place, site, lead):
+        """What makes a specifier lead where it does: a row of the import map, a redirect, or that it is external."""
+        value = site.value
+        if not (lead.place or lead.url or lead.external) or not is_utf8(value):
+            return
+        try:
+            url = urls.joined(urls.of_file(place), value) if value.startswith(("./", "../", "/")) else urls.url_of(value) if urls.URL.match(value) else None
+        except urls.NoUrl:
+            return
+        target = urls.of_file(lead.place) if lead.place else lead.url or url or "external:" + value
+        if lead.external:
+            self.external[target] = None
+        if url is not None and url != target and url.endswith("/"):
+            self.redirects[url] = target  # the key of a map that ends with / stands for what is below it
+        else:
+            self.maps[value if url is None else url][place] = target
+
+    def leads_nowhere(self, place, site, lead):
+        value = site.value
+        try:
+            if value.startswith(("./", "../", "/")):
+                self.reasons[urls.joined(urls.of_file(place), value)] = lead.reason
+            elif urls.URL.match(value):
+                self.reasons[urls.url_of(value)] = lead.reason
+        except urls.NoUrl:
+            pass
+        self.reasons.setdefault(value, lead.reason)
+        if lead.url:
+            self.reasons.setdefault(lead.url, lead.reason)
+        if lead.reason == "it leads out of the folder":
+            self.leads_out = self.leads_out or (place, value)
+            self.left_out[f"{place}: {value}"] = lead.reason
+        elif not value.startswith(("./", "../", "/")) and not urls.URL.match(value):
+            self.nowhere[value].append((place, lead.reason))
+        elif lead.reason in resolve.NO_FILE.values():
+            self.left_out[f"{place}: {value}"] = lead.reason
+
+    def import_map(self):
+        """What stands in the import map: what most files mean, and for each folder, or file, that means something else that."""
+        imports, scopes = {}, {}
+        for key, meanings in sorted(self.maps.items()):
+            counted = collections.Counter(meanings.values())
+            if set(counted) == {key}:
+                continue
+            imports[key] = usual = max(counted, key=lambda url: (counted[url], url))
+            if len(counted) == 1:
+                continue
+            by_folder = collections.defaultdict(dict)
+            for place, url in meanings.items():
+                by_folder[posixpath.dirname(place)][place] = url
+            of_folder = {folder: next(iter(rows.values())) for folder, rows in by_folder.items()}
+            for folder, url in sorted(of_folder.items()):
+                if url != usual or any(of_folder.get(at, usual) != usual for at in resolve.above(folder)):
+                    scopes.setdefault(urls.of_file(folder + "/" if folder else ""), {})[key] = url
+                for place, own in sorted(by_folder[folder].items()):
+                    if own != url:
+                        scopes.setdefault(urls.of_file(place), {})[key] = own
+        return {"imports": imports, **({"scopes": scopes} if scopes else {})}
+
+    # ---- the whole
+
+    def bundle(self, roots):
+        modules = [{"specifier": urls.of_file(place), **self.contents[place]} for place in sorted(self.taken, key=in_order)]
+        taken = {module["specifier"] for module in modules}
+        modules += [{"specifier": url, "redirect": to} for url, to in sorted(self.redirects.items()) if url not in taken]
+        modules += [{"specifier": url, "external": True} for url in sorted(self.external) if url not in taken]
+        value = {"roots": roots}
+        if self.asked.kind:
+            value["kind"] = self.asked.kind
+        if len(modules) > USUAL_LIMIT // 2:
+            value["limit"] = min(1_000_000, 100 * len(modules))
+        if self.types:
+            value["imports"] = [{"referrer": urls.of_file(code), "imports": ["./" + urls.of_file(types).rpartition("/")[2]]}
+                                for code, types in sorted(self.types.items())]
+        rows = self.import_map()
+        if rows["imports"]:
+            value["importMap"] = {"base": "file:///", "map": rows}
+        value["modules"] = modules
+        return json.dumps(value, indent=1, ensure_ascii=False) + "\n"
+
+    def tell(self):
+        """What was left out, and which bare specifiers lead nowhere: of very many those that most files name."""
+        if self.resolver.told:
+            say("pack", self.resolver.told)
+        for value, (place, lead) in sorted(self.notes.items())[:MOST_TOLD]:
+            say("pack", f"{shown(value)} in {plain(place)} is taken for {plain(lead.place)} of the folder: {lead.note}")
+        for path, reason in sorted(self.left_out.items())[:MOST_TOLD]:
+            say("pack", f"{plain(path)}: left out: {reason}")
+        self.tell_more(len(self.left_out), "is left out", "are left out")
+        most = sorted(self.nowhere, key=lambda specifier: (-len(self.nowhere[specifier]), specifier))[:MOST_TOLD]
+        for specifier in sorted(most):
+            count, (place, why) = len(self.nowhere[specifier]), self.nowhere[specifier][0]
+            more = f" and {count - 1} more" if count > 1 else ""
+            say("pack", f"{shown(specifier)} in {plain(place)}{more} leads nowhere: {plain(why)}")
+        self.tell_more(len(self.nowhere), "leads nowhere", "lead nowhere")
+
+    @staticmethod
+    def tell_more(count, one, many):
+        if count > MOST_TOLD:
+            say("pack", f"{count - MOST_TOLD:,} more {one if count == MOST_TOLD + 1 else many}")
+
+    def refuse_size(self, size):
+        if size <= MOST_BYTES:
+            return
+        largest = sorted(self.taken, key=lambda place: -self.sizes[place])[:LARGEST]
+        rows = "".join(f"\n  {self.sizes[place]:>12,}  {plain(place)}" for place in largest)
+        raise Wrong(f"too large: {size:,} bytes, and the program reads at most {MOST_BYTES:,}; --exclude leaves out; the largest of {len(self.taken):,} files:{rows}")
+
+
+def shown(specifier):
+    """A specifier in quotes, cut where it is long."""
+    return json.dumps(specifier if len(specifier) <= 200 else specifier[:198] + "..", ensure_ascii=False)
+
+
+# ---- roots
+
+
+def path_of_root(folder, root):
+    """The path of a root from the folder."""
+    if not os.path.isabs(root):
+        return os.path.normpath(root).replace(os.sep, "/")
+    for below in (os.path.abspath(folder), os.path.realpath(folder)):
+        path = os.path.relpath(root, below)
+        if path.split(os.sep)[0] != os.pardir:
+            return path.replace(os.sep, "/")
+    raise Wrong(f"{plain(root)}: not below {plain(folder)}")
+
+
+def root_of(packer, root):
+    """The specifier of a root, and the file that it is, or None."""
+    path = path_of_root(packer.asked.folder, root)
+    named = plain(os.path.relpath(root) if os.path.isabs(root) else root)
+    if packer.folder.is_file(path) and not path.startswith("../"):
+        if not is_utf8(path):
+            raise Wrong(f"{named}: its name is no UTF-8")
+        return urls.of_file(path), path
+    if packer.folder.is_folder("" if path == "." else path):
+        raise Wrong(f"{named}: a folder, and a root is a file")
+    if urls.URL.match(root):
+        return root, None
+    why = packer.folder.why_none(path)
+    raise Wrong(f"{named}: {why}" if why else f"{named}: no such file below {plain(packer.asked.folder)}")
+
+
+def all_below(packer):
+    """The files of the folder, whether they are reached or not; hidden ones and node_modules aren't looked at."""
+    waiting = [""]
+    while waiting:
+        at = waiting.pop(0)
+        for name, kind in sorted(packer.folder.names_in(at).items()):
+            place = f"{at}/{name}" if at else name
+            if name.startswith(".") or name == "node_modules":
+                continue
+            if kind == "folder" and os.path.islink(packer.folder.path(place)):
+                packer.left_out[place] = "a link to a folder"
+            elif not is_utf8(name):
+                packer.left_out[place] = "its name is no UTF-8"
+            elif kind == "folder":
+                waiting.append(place)
+            elif packer.takes_any or name.lower().endswith(packer.endings):
+                reason = resolve.NO_FILE.get(kind) or packer.why_left_out(place)
+                if reason:
+                    packer.left_out[place] = reason
+                else:
+                    yield place
+
+
+def packed(asked, reader, errors):
+    """The packer of a folder, all of whose files are taken, and the roots' specifiers."""
+    if not os.path.isdir(asked.folder):
+        raise Wrong(f"{plain(asked.folder)}: {'no folder' if os.path.exists(asked.folder) else 'no such folder'}")
+    packer = Packer(asked, reader, errors)
+    roots = [root_of(packer, root) for root in asked.roots]
+    packer.take([place for _, place in roots if place] + (list(all_below(packer)) if asked.all else []))
+    return packer, [specifier for specifier, _ in roots]

@@ -1,0 +1,108 @@
+"""Where the texts of files name other modules, as the program reads them: many files in one call."""
+import collections
+import json
+import re
+
+from parts import report
+from parts.resolve import DECLARATIONS
+from parts.words import MOST_BYTES
+
+SOURCES = (".ts", ".mts", ".cts", ".tsx", ".js", ".mjs", ".cjs", ".jsx")
+TYPESCRIPT = (".ts", ".mts", ".cts", ".tsx")
+# How many bytes of texts one call of the program takes: written as JSON they may be six times as many.
+PART = 4_000_000
+# What likely names a module; only to read ahead, so that few calls are needed.
+HINT = re.compile(r"""\b(?:from|import)[\s(]{0,20}(?:"([^"\\\n]{1,500})"|'([^'\\\n]{1,500})')""")
+
+Site = collections.namedtuple("Site", "kind value")
+Site.__doc__ = "kind: as the report has it, as import-type. value: the text of the specifier."
+
+
+def is_source(place):
+    return place.lower().endswith(SOURCES)
+
+
+def is_declaration(place):
+    return place.lower().endswith(DECLARATIONS)
+
+
+def is_typescript(place):
+    return place.lower().endswith(TYPESCRIPT)
+
+
+def hints_in(text):
+    return list(dict.fromkeys(found[1] or found[2] for found in HINT.finditer(text)))
+
+
+def ending_of(place):
+    """The ending by which the program tells how a file is read."""
+    name = place.lower().rpartition("/")[2]
+    for ending in (*DECLARATIONS, *SOURCES, ".wasm"):
+        if name.endswith(ending):
+            return ending
+    return None
+
+
+def is_followed(kind, place, site):
+    """Whether a graph of a kind follows an edge of a module, as docs/RESOLUTION.md has it."""
+    is_type_only = site.kind.endswith("-type") or site.kind.startswith("reference-")
+    if kind == "code":
+        return not is_type_only
+    if kind == "types":
+        return is_typescript(place) and site.kind not in ("import-source", "dynamic-source", "wasm")
+    return True
+
+
+class Reader:
+    """Asks the program for the sites of files."""
+
+    def __init__(self, program):
+        self.program = program
+        self.of_data = {}  # of each data: URL that is met, those of what it holds
+
+    def read(self, contents):
+        """The sites of each file, by place, of a dictionary from places to what the bundle has for them."""
+        found, part, size = {}, {}, 0
+        for place, content in contents.items():
+            length = len(next(iter(content.values())))
+            if part and size + length > PART:
+                found.update(self.asked(part))
+                part, size = {}, 0
+            part[place] = content
+            size += length
+        found.update(self.asked(part))
+        return found
+
+    def asked(self, contents):
+        names = {f"file:///{number}{ending_of(place)}": place for number, place in enumerate(contents) if ending_of(place)}
+        if not names:
+            return dict.fromkeys(contents, ())
+        modules = [{"specifier": name, **contents[place]} for name, place in names.items()]
+        data = json.dumps({"roots": list(names), "limit": 1_000_000, "modules": modules}, ensure_ascii=False).encode("utf-8", "surrogatepass")
+        if len(data) > MOST_BYTES:
+            return dict.fromkeys(contents, ()) if len(contents) == 1 else self.halved(contents)
+        status, told = self.program.report(data)
+        found = dict.fromkeys(contents, ())
+        for specifier, sites in sites_of(told).items() if status == 0 else ():
+            if specifier in names:
+                found[names[specifier]] = sites
+            else:
+                self.of_data[specifier] = sites
+        return found
+
+    def halved(self, contents):
+        places = list(contents)
+        first, second = places[:len(places) // 2], places[len(places) // 2:]
+        return {**self.asked({it: contents[it] for it in first}), **self.asked({it: contents[it] for it in second})}
+
+
+def sites_of(told):
+    """The sites of each entry of a report that has edges."""
+    found, at = {}, None
+    for line in told.decode("utf-8").split("\n"):
+        edge = report.EDGE.fullmatch(line) if line.startswith("  ") else None
+        if edge and at is not None:
+            found.setdefault(at, {})[Site(edge[1], json.loads(edge[3]))] = None
+        elif not edge:
+            at = line.partition(" module ")[0] if " module " in line else None
+    return {specifier: list(sites) for specifier, sites in found.items()}
