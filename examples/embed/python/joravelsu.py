@@ -11,7 +11,7 @@
     >>> exports_of('exports.b = 1; module.exports.a = 2;', CJS, common_js=True)
     Exports(names=['a', 'b'], again=[])
 
-The library is found by the variable JORAVELSU_LIBRARY, the path of libjoravelsu.so, or else by the system.
+The library is the one that the variable JORAVELSU_LIBRARY names, else libjoravelsu.so beside this module, else the system's.
 """
 from __future__ import annotations
 
@@ -172,7 +172,8 @@ class _ExportsAnswer(ctypes.Structure):
 
 
 def _load() -> ctypes.CDLL:
-    path = os.environ.get("JORAVELSU_LIBRARY", "libjoravelsu.so")
+    beside = os.path.join(os.path.dirname(os.path.abspath(__file__)), "libjoravelsu.so")
+    path = os.environ.get("JORAVELSU_LIBRARY") or (beside if os.path.exists(beside) else "libjoravelsu.so")
     try:
         library = ctypes.CDLL(path)
     except OSError as error:
