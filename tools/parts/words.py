@@ -12,11 +12,22 @@ class Wrong(Exception):
     """What is wrong, in one line."""
 
 
+class Version(argparse.Action):
+    """Prints the version of a command."""
+
+    def __call__(self, parser, *_):
+        from parts import version
+
+        print(version.of(parser.prog.split(" ")[0]))
+        parser.exit(0)
+
+
 class Words(argparse.ArgumentParser):
     """Words of a command line; where they are wrong the status is 64."""
 
     def __init__(self, usage, doc, **more):
         super().__init__(usage=usage, description=doc, formatter_class=argparse.RawDescriptionHelpFormatter, **more)
+        self.add_argument("--version", action=Version, nargs=0, help="print the version")
 
     def error(self, message):
         self.exit(64, f"{self.format_usage()}{self.prog}: {message}\n")

@@ -1,0 +1,153 @@
+"""One run of ./joravelsu: the folder of the project, its bundle, the program, the report and its graph."""
+import argparse
+import json
+import os
+import sys
+
+from parts import bundles, config, faults, kit, packing, program, project, report, resolve, sites, unproved
+from parts.words import Wrong, plain, read_regular
+from parts.words import say as said
+
+# The file that is read where a specifier has no name of its own.
+STANDARD_INPUT = "standard-input"
+
+
+def say(line):
+    said("joravelsu", line)
+
+
+def relative(path):
+    return None if path is None else os.path.relpath(path)
+
+
+def front_of(folder):
+    """What stands in front of a path from the folder, so that it is one from here."""
+    path = os.path.relpath(folder)
+    return "" if path == "." else path + "/"
+
+
+def made_program():
+    """The program; that it is the unproved one is said."""
+    made = program.Program("joravelsu")
+    if not made.proved:
+        unproved.say_unproved("joravelsu")
+    return made
+
+
+class Run:
+    """One run over a project."""
+
+    def __init__(self, asked, choices):
+        self.asked = asked
+        self.paths = []
+        self.configure(choices)
+        asked.roots = list(self.roots(asked.roots or [asked.folder or project.named_above(os.getcwd())]))
+        self.program = made_program()
+        packer, roots = self.packed()
+        self.front = front_of(asked.folder)
+        self.data, self.reasons = kit.tool("pack").finished(packer, roots)
+        status, self.report = self.program.report(self.data)
+        if status:
+            raise Wrong(f"there is no graph: {self.report.decode().strip()}")
+        self.graph = report.graph_of(self.report)
+        self.bundle = bundles.Bundle(self.data)
+
+    def configure(self, choices):
+        """Takes what joravelsu.json says, and then what is said where nothing is."""
+        asked = self.asked
+        if asked.config is None:
+            paths = [project.path_of(root) for root in asked.roots]
+            start = next((path for path in paths if path), os.getcwd())
+            asked.config = relative(config.file_above(start if os.path.isdir(start) else os.path.dirname(start)))
+        if asked.config not in (None, "none"):
+            config.take(asked, asked.config, choices)
+        if asked.fail_on is None:
+            asked.fail_on = asked.usual_fail_on
+
+    def roots(self, named):
+        """The roots: paths of files, those that a folder names, and URLs."""
+        ways = resolve.Ways(self.asked.conditions, self.asked.browser, self.asked.kind == "types")
+        for root in named:
+            path = project.path_of(root)
+            if path is None:
+                yield root
+            elif os.path.isdir(path):
+                found, what = project.roots_in(path, ways)
+                say(f"the root is {', '.join(plain(os.path.relpath(it)) for it in found)} ({what})")
+                self.paths += [os.path.dirname(it) for it in found]
+                yield from found
+            else:
+                self.paths.append(os.path.dirname(path))
+                yield path
+
+    def packed(self):
+        """The packer of the project's folder: of a greater one where a specifier leads out of it and there is one."""
+        folders = [os.path.abspath(self.asked.folder)] if self.asked.folder else project.folders_of(self.paths)
+        for number, folder in enumerate(folders):
+            packer, roots = packing.packed(self.settled(folder), sites.Reader(self.program), sys.stderr)
+            if not packer.leads_out or number == len(folders) - 1:
+                break
+            say(f"{plain(packer.leads_out[0])} leads out of {plain(os.path.relpath(folder))}: {plain(os.path.relpath(folders[number + 1]))} is packed in its place")
+        return packer, roots
+
+    def settled(self, folder):
+        """What is asked, over a folder and its settings."""
+        asked = argparse.Namespace(**vars(self.asked))
+        common = os.path.commonpath(self.paths) if self.paths else folder
+        asked.folder = self.asked.folder = os.path.relpath(folder)
+        if asked.tsconfig is None:
+            asked.tsconfig = relative(project.settings_above(common, folder, project.TSCONFIGS))
+        deno = project.settings_above(common, folder, project.DENO) if asked.deno is None else asked.deno
+        asked.deno = None if deno in (None, "none") else os.path.relpath(deno, folder).replace(os.sep, "/")
+        asked.tsconfig = None if asked.tsconfig == "none" else asked.tsconfig
+        has_package = any(project.settings_above(at, folder, ("package.json",)) for at in self.paths)
+        asked.packages = asked.packages or has_package or os.path.isdir(os.path.join(folder, "node_modules"))
+        return asked
+
+
+class Imports:
+    """The imports of one file, as the program reads it."""
+
+    def __init__(self, path, language):
+        self.name = path if path != "-" else STANDARD_INPUT
+        data = sys.stdin.buffer.read() if path == "-" else read_regular(path)
+        ending = language or (sites.ending_of(path) if path != "-" else ".ts")
+        if ending not in (*sites.SOURCES, *resolve.DECLARATIONS, ".wasm"):
+            raise Wrong(f"{plain(path)}: a file of this ending has no imports; --as .ts says how it is read")
+        self.specifier = f"file:///module{ending}"
+        module = {"specifier": self.specifier, **packing.content_of(self.specifier, data)}
+        self.program = made_program()
+        bundle = json.dumps({"roots": [self.specifier], "limit": 1_000_000, "modules": [module]}, ensure_ascii=False).encode("utf-8", "surrogatepass")
+        status, told = self.program.report(bundle)
+        if status:
+            raise Wrong(f"{plain(path)}: {told.decode().strip()}")
+        self.graph, self.bundle = report.graph_of(told), bundles.Bundle(bundle)
+        self.entry = self.graph.entries[self.specifier]
+
+    def fault(self):
+        """Why it isn't read, or None."""
+        if not self.entry.is_faulty():
+            return None
+        if not faults.is_in_itself(self.entry):
+            return faults.Fault(self.entry.fault(), self.specifier, None, None, faults.said_of_entry(self.entry))
+        return faults.in_itself(self.entry, self.bundle, self.program.which_are_read)
+
+    def lines(self):
+        fault, source = self.fault(), self.bundle.source(self.specifier)
+        if fault:
+            for number, line in enumerate(faults.lines_of(fault, self.bundle)):
+                yield line if number else self.name + line.removeprefix("module" + self.specifier[len("file:///module"):])
+        for edge in self.entry.edges:
+            line, column = source.place(faults.range_of(edge)[0])
+            attribute = "" if edge.attribute == "-" else f" with type {edge.attribute}"
+            yield f"{self.name}:{line}:{column}: {edge.kind} {json.dumps(report.value_of(edge), ensure_ascii=False)}{attribute}"
+
+    def value(self):
+        values = [kit.tool("graph-json").edge_value(edge, self.bundle.source(self.specifier)) for edge in self.entry.edges]
+        value = {"format": "joravelsu-imports", "version": 1, "file": self.name, "imports": [{key: it[key] for key in it if key not in ("target", "fault")} for it in values]}
+        fault = self.fault()
+        if fault:
+            value["fault"] = {"kind": fault.kind, "message": fault.what}
+            if fault.start is not None:
+                value["fault"]["line"], value["fault"]["column"] = self.bundle.source(self.specifier).place(fault.start)
+        return value

@@ -1,0 +1,163 @@
+"""What a check found, as text, as JSON (docs/check.schema.json), as SARIF 2.1.0, and as annotations of GitHub."""
+import collections
+import json
+from urllib.parse import quote, unquote
+
+from parts import faults, report, urls
+from parts.bundles import shown
+
+Found = collections.namedtuple("Found", "level rule message specifier start end place cause", defaults=(None,))
+Found.__doc__ = """One row. level: error or warning. rule: the fault's kind, unread, or cycle. start, end: bytes of the module's text,
+or None. place: line and column, both from 1, or None. cause: the fault, the row of unread, or the entries of the cycle."""
+
+RULES = {
+    "Missing": "A module isn't there", "ImportPrefixMissing": "A bare specifier resolves to nothing", "InvalidUrl": "A specifier can't be read as a URL",
+    "Parse": "A text is no program of the grammar", "Decode": "A text isn't UTF-8", "WasmParse": "Bytes are no WebAssembly module",
+    "Loading": "A module couldn't be loaded", "TooManyRedirects": "Redirects are more than ten, or never end", "UnsupportedMediaType": "No module is read from content of this media type",
+    "DataUrl": "A data: URL holds nothing", "PackageReference": "A specifier names no package", "InvalidDowngrade": "An import leads from https to http",
+    "InvalidLocalImport": "An import leads from the web to a local file", "InvalidTypeAssertion": "An import attribute doesn't fit the module",
+    "InvalidSourcePhase": "A source is imported of what isn't WebAssembly", "Refused": "An import map refuses a specifier",
+    "unread": "A call that may load a module and is no edge", "cycle": "Modules that load each other",
+}
+
+
+class Verdict:
+    def __init__(self, run, summary, found, rows, fail_on):
+        """run: the run; summary: its counts; found: its faults; rows: what is unread; fail_on: words of --fail-on."""
+        self.run, self.summary, self.faults, self.rows, self.fail_on = run, summary, found, rows, fail_on
+        self.words = summary.what_is_there()
+        self.status = 1 if self.words & set(fail_on) else 0
+
+    def line(self):
+        said = report.counted(len(self.faults), "fault", "faults") if self.faults else "no faults"
+        if self.rows:
+            said += f"; {report.counted(len(self.rows), 'place', 'places')} of import(..) and require(..) that no graph shows"
+        return f"{said}; status {self.status}"
+
+    def found(self):
+        """Each row, in the order of the text form."""
+        for fault in self.faults:
+            source = self.run.bundle.source(fault.specifier) if fault.start is not None else None
+            place = source.place(fault.start) if source else None
+            yield Found("error", fault.kind, fault.what, fault.specifier, fault.start, fault.end, place, fault)
+        for row in self.rows:
+            specifier, line, column, word, argument, own = row
+            hint = ", unless it is a require of the file itself" if own else ""
+            yield Found("warning", "unread", f"{word}({argument}) gives no edge{hint}", specifier, None, None, (line, column), row)
+        for part in self.summary.cycles:
+            level = "error" if "cycle" in self.fail_on else "warning"
+            yield Found(level, "cycle", self.summary.cycle(part), part[0].specifier, None, None, None, part)
+
+    # ---- text
+
+    def lines(self):
+        from parts import kit
+
+        found = [line for fault in self.faults for line in faults.lines_of(fault, self.run.bundle, self.run.front)]
+        found += kit.tool("unread").lines_of(self.rows, self.run.front)
+        return [*found, *[""] * bool(found), *self.summary.lines(), self.line()]
+
+    # ---- JSON
+
+    def value(self):
+        graph = self.run.graph
+        states = collections.Counter(entry.kind() for entry in graph.entries.values())
+        edges = [edge for entry in graph.entries.values() for edge in entry.edges if edge.kind != "redirect"]
+        return {
+            "format": "joravelsu-check",
+            "version": 1,
+            "status": self.status,
+            "verdict": self.line(),
+            "failOn": list(self.fail_on),
+            "found": sorted(self.words),
+            "proved": bool(self.run.program.proved),
+            "folder": self.run.front,
+            "roots": graph.roots,
+            "counts": {"entries": len(graph.entries), **{f"{kind}s": states[kind] for kind in ("module", "package", "redirect", "external", "error")},
+                       "edges": len(edges), "edgesWithoutTarget": sum(1 for edge in edges if edge.fault)},
+            "faults": [self.fault_value(found) for found in self.found() if found.rule not in ("unread", "cycle")],
+            "unread": [{**self.where(found), "call": found.cause[3], "argument": found.cause[4], "maybeOwn": found.cause[5]} for found in self.found() if found.rule == "unread"],
+            "cycles": [[entry.specifier for entry in part] for part in self.summary.cycles],
+            **({"unreached": self.summary.unreached} if self.summary.unreached is not None else {}),
+        }
+
+    def fault_value(self, found):
+        value = {"kind": found.rule, **self.where(found), "message": found.message}
+        if found.start is not None:
+            value["range"] = [found.start, found.end]
+        return value
+
+    def where(self, found):
+        value = {"specifier": found.specifier}
+        if path_of(found.specifier) is not None:
+            value["file"] = self.run.front + path_of(found.specifier)
+        if found.place:
+            value["line"], value["column"] = found.place
+        return value
+
+    def json(self):
+        return json.dumps(self.value(), ensure_ascii=True, indent=1) + "\n"
+
+    # ---- SARIF
+
+    def sarif(self):
+        from parts import kit
+
+        rules = list(RULES)
+        driver = {"name": "joravelsu", "version": kit.VERSION, "rules": [{"id": rule, "shortDescription": {"text": RULES[rule]}} for rule in rules]}
+        results = []
+        for found in self.found():
+            result = {"ruleId": found.rule, "level": found.level, "message": {"text": found.message}}
+            if found.rule in RULES:
+                result["ruleIndex"] = rules.index(found.rule)
+            location = {"artifactLocation": {"uri": self.uri(found.specifier)}}
+            region = self.region(found)
+            if region:
+                location["region"] = region
+            results.append({**result, "locations": [{"physicalLocation": location}]})
+        value = {"$schema": "https://json.schemastore.org/sarif-2.1.0.json", "version": "2.1.0",
+                 "runs": [{"tool": {"driver": driver}, "columnKind": "unicodeCodePoints", "results": results}]}
+        return json.dumps(value, ensure_ascii=True, indent=1) + "\n"
+
+    def uri(self, specifier):
+        path = path_of(specifier)
+        return specifier if path is None else quote(self.run.front + path)
+
+    def region(self, found):
+        if not found.place:
+            return None
+        line, column = found.place
+        region = {"startLine": line, "startColumn": column}
+        source = self.run.bundle.source(found.specifier) if found.start is not None else None
+        if source:
+            end_line, end_column = source.place(min(found.end, len(source.data)))
+            region.update(endLine=end_line, endColumn=max(end_column, column + 1) if end_line == line else end_column)
+            if not source.mark:
+                region.update(byteOffset=found.start, byteLength=found.end - found.start)
+        return region
+
+    # ---- GitHub
+
+    def annotations(self):
+        """A line for each row that GitHub shows beside the file."""
+        for found in self.found():
+            path = path_of(found.specifier)
+            parts = [f"file={of_property(self.run.front + path)}"] if path is not None else []
+            if found.place:
+                parts += [f"line={found.place[0]}", f"col={found.place[1]}"]
+            message = found.message if path is not None else f"{shown(found.specifier)}: {found.message}"
+            yield f"::{found.level} {','.join([*parts, 'title=joravelsu ' + found.rule])}::{of_message(message)}"
+
+
+def path_of(specifier):
+    """The path from the folder of a specifier of a file, or None."""
+    place = urls.to_file(specifier)
+    return place if place is not None else unquote(specifier[len("file:///"):], errors="replace") if specifier.startswith("file:///") else None
+
+
+def of_message(text):
+    return text.replace("%", "%25").replace("\r", "%0D").replace("\n", "%0A")
+
+
+def of_property(text):
+    return of_message(text).replace(":", "%3A").replace(",", "%2C")

@@ -1,0 +1,228 @@
+"""./joravelsu's forms: JSON, SARIF, annotations, imports, diff, the file of options, versions, man page and completions."""
+import json
+import os
+import re
+import shutil
+import subprocess
+import sys
+import tempfile
+import unittest
+
+TOOLS = os.path.dirname(os.path.dirname(os.path.abspath(__file__)))
+ROOT = os.path.dirname(TOOLS)
+sys.path.insert(0, TOOLS)
+from parts import compare, config, kit, usage, verdict  # noqa: E402
+from tests.test_graph_tools import REPORT, faults_of  # noqa: E402
+
+JORAVELSU = os.path.join(ROOT, "joravelsu")
+DEMO = "examples/projects/demo/src/main.ts"
+EDGES = {"import", "export", "dynamic"}
+
+
+def ran(*words, cwd=ROOT, given=b""):
+    done = subprocess.run([JORAVELSU, *words], input=given, capture_output=True, cwd=cwd, env={**os.environ, "JORAVELSU_QUIET": "1"}, check=False)
+    return done.returncode, done.stdout.decode(), done.stderr.decode()
+
+
+def schema(name):
+    with open(os.path.join(ROOT, "docs", name), encoding="utf-8") as file:
+        return json.load(file)
+
+
+class Check(unittest.TestCase):
+    def test_json(self):
+        status, out, _ = ran("check", "--json", "--all", DEMO)
+        value = json.loads(out)
+        whole = schema("check.schema.json")
+        self.assertEqual(list(faults_of(value, whole, whole)), [])
+        self.assertEqual((status, value["status"], len(value["faults"]), len(value["unread"])), (1, 1, 15, 2))
+        self.assertEqual(value["faults"][1], {"kind": "Parse", "specifier": "file:///src/faulty/assigns.ts", "file": "examples/projects/demo/src/faulty/assigns.ts",
+                                              "line": 6, "column": 18, "message": "'=' can't stand here", "range": [126, 127]})
+        self.assertTrue(out.isascii())
+        text = ran("check", "--all", DEMO)[1]
+        self.assertEqual(text.splitlines()[-1], value["verdict"])
+        for fault in value["faults"]:
+            self.assertIn(f"{fault['file']}:{fault['line']}:{fault['column']}: {fault['message']}\n", text)
+
+    def test_sarif(self):
+        run = json.loads(ran("check", "--sarif", "--fail-on", "cycle", DEMO)[1])
+        self.assertEqual((run["version"], len(run["runs"])), ("2.1.0", 1))
+        driver, results = run["runs"][0]["tool"]["driver"], run["runs"][0]["results"]
+        self.assertEqual(len(results), 18)
+        for result in results:
+            self.assertEqual(driver["rules"][result["ruleIndex"]]["id"], result["ruleId"])
+            self.assertIn(result["level"], ("error", "warning"))
+            place = result["locations"][0]["physicalLocation"]
+            self.assertTrue(os.path.exists(os.path.join(ROOT, place["artifactLocation"]["uri"])))
+        self.assertEqual(results[1]["locations"][0]["physicalLocation"]["region"], {"startLine": 6, "startColumn": 18, "endLine": 6, "endColumn": 19, "byteOffset": 126, "byteLength": 1})
+        self.assertEqual([result["level"] for result in results if result["ruleId"] == "cycle"], ["error"])
+
+    def test_rules_have_each_fault(self):
+        faults = kit.tool("explain").faults
+        self.assertLessEqual(set(faults.OF_ENTRY) | set(faults.OF_EDGE) | {"Parse", "Decode", "unread", "cycle"}, set(verdict.RULES))
+
+    def test_annotations(self):
+        lines = ran("check", "--github", DEMO)[1].splitlines()
+        self.assertEqual(len(lines), 18)
+        self.assertEqual(lines[1], "::error file=examples/projects/demo/src/faulty/assigns.ts,line=6,col=18,title=joravelsu Parse::'=' can't stand here")
+        self.assertEqual((verdict.of_message("50%\r\n::error::x"), verdict.of_property("a,b:c%")), ("50%25%0D%0A::error::x", "a%2Cb%3Ac%25"))
+
+    def test_output_file(self):
+        with tempfile.TemporaryDirectory() as room:
+            path = os.path.join(room, "found.json")
+            self.assertEqual(ran("check", "--json", "-o", path, DEMO)[:2], (1, ""))
+            with open(path, encoding="utf-8") as file:
+                self.assertEqual(json.load(file)["format"], "joravelsu-check")
+
+
+class Imports(unittest.TestCase):
+    def test_lines(self):
+        text = "import a from './b' with { type: 'json' };\nexport * from \"c\"; import('d'); // import 'e'\nimport type { F } from './f';"
+        wanted = ['standard-input:1:15: import "./b" with type "json"', 'standard-input:2:15: export "c"', 'standard-input:2:27: dynamic "d"', 'standard-input:3:24: import-type "./f"']
+        self.assertEqual(ran("imports", "-", given=text.encode()), (0, "".join(line + "\n" for line in wanted), ""))
+
+    def test_json(self):
+        status, out, _ = ran("imports", "--json", "--as", ".mjs", "-", given=b"import 'a'")
+        self.assertEqual((status, json.loads(out)), (0, {"format": "joravelsu-imports", "version": 1, "file": "standard-input",
+                                                         "imports": [{"kind": "import", "typeOnly": False, "specifier": "a", "range": [7, 10], "line": 1, "column": 8}]}))
+
+    def test_faults(self):
+        status, out, _ = ran("imports", "-", given=b"import 'a';\n  let = ;")
+        self.assertEqual(status, 1)
+        self.assertRegex(out, r"^standard-input:2:\d+: ")
+        value = json.loads(ran("imports", "--json", "-", given=b"\xff")[1])
+        self.assertEqual(value["fault"], {"kind": "Decode", "message": "byte 0 (0xff) is no UTF-8", "line": 1, "column": 1})
+        for words, said in ((("docs/TOOLS.md",), "docs/TOOLS.md: a file of this ending has no imports; --as .ts says how it is read"), (("gone.ts",), "gone.ts: No such file or directory"), (("docs",), "docs: Is a directory")):
+            self.assertEqual(ran("imports", *words), (2, "", f"joravelsu: {said}\n"))
+
+    def test_a_file(self):
+        self.assertTrue(ran("imports", DEMO)[1].startswith(DEMO + ":1:"))
+
+
+class Diff(unittest.TestCase):
+    def setUp(self):
+        room = tempfile.TemporaryDirectory()
+        self.addCleanup(room.cleanup)
+        self.room = room.name
+
+    def put(self, name, text):
+        with open(os.path.join(self.room, name), "w", encoding="utf-8") as file:
+            file.write(text)
+        return os.path.join(self.room, name)
+
+    def test_differences(self):
+        old = self.put("old", REPORT)
+        changed = REPORT.replace('  import 30-34 "fs" - ! ImportPrefixMissing "fs"\n', "").replace("file:///c.ts error Missing", "file:///c.ts module TypeScript 5\n  import 1-5 \"./x\" - -> file:///x")
+        new = self.put("new", changed.replace("node:f external\n", "file:///x error Missing\nnode:f external\n").replace("TypeScript 20", "TypeScript 21"))
+        status, out, _ = ran("diff", old, new)
+        self.assertEqual((status, out.splitlines()), (1, [
+            "entries that come: 1", "  + x: error Missing", "entries that are otherwise: 1", "  ! c.ts: error Missing, now module TypeScript",
+            "edges that come: 1", '  + c.ts: import "./x" -> x', "edges that are gone: 1", '  - a.ts: import "fs" ! ImportPrefixMissing "fs"',
+            "faults that come: 1", "  + x: Missing", "faults that are gone: 2", '  - a.ts: "fs": ImportPrefixMissing "fs"', "  - c.ts: Missing"]))
+        value = json.loads(ran("diff", "--json", new, old)[1])
+        self.assertEqual(value["entries"], {"come": [], "gone": [{"specifier": "file:///x", "state": "error Missing"}],
+                                            "changed": [{"specifier": "file:///c.ts", "state": "error Missing", "old": "module TypeScript"}]})
+        self.assertEqual(ran("diff", old, old), (0, "the graphs are the same, but for sizes and places\n", ""))
+
+    def test_a_report_and_its_json_are_the_same(self):
+        for name in ("demo.expected/graph",):
+            path = os.path.join(ROOT, "examples", "projects", name)
+            self.assertEqual(ran("diff", path + ".report", path + ".json")[0], 0)
+        report = self.put("report", REPORT)
+        made = self.put("json", subprocess.run([os.path.join(TOOLS, "graph-json"), report], capture_output=True, text=True, check=True).stdout)
+        self.assertEqual(ran("diff", report, made)[1], "the graphs are the same, but for sizes and places\n")
+
+    def test_no_graph(self):
+        other = self.put("other", "{}")
+        self.assertEqual(ran("diff", other, other), (2, "", f"joravelsu: {other}: it is neither a report nor a graph as JSON\n"))
+        self.assertTrue(compare.side_of(REPORT.encode()).faults)
+
+
+class Options(unittest.TestCase):
+    def setUp(self):
+        room = tempfile.TemporaryDirectory()
+        self.addCleanup(room.cleanup)
+        self.room = room.name
+        os.makedirs(os.path.join(self.room, "src"))
+        for name, text in (("src/main.ts", "import './a'; import 'b'"), ("src/a.ts", "import './main'"), ("package.json", "{}")):
+            with open(os.path.join(self.room, name), "w", encoding="utf-8") as file:
+                file.write(text)
+
+    def configure(self, value):
+        with open(os.path.join(self.room, "joravelsu.json"), "w", encoding="utf-8") as file:
+            json.dump(value, file)
+
+    def test_what_the_file_says(self):
+        self.configure({"$schema": "x", "roots": ["src/main.ts"], "external": ["b"], "failOn": ["cycle"]})
+        self.assertEqual(ran("check", cwd=self.room)[0], 1)
+        status, out, errors = ran("check", "--fail-on", "missing", cwd=os.path.join(self.room, "src"))
+        self.assertEqual((status, errors), (0, ""))
+        self.assertIn("no faults; status 0", out)
+        self.assertIn("1 fault; status 1", ran("check", "--config", "none", "src/main.ts", cwd=self.room)[1])
+        self.assertIn("1 fault; status 0", ran("check", "--external", "c", "--fail-on", "missing", cwd=self.room)[1].replace("status 1", "status 0"))
+
+    def test_what_is_no_option(self):
+        rows = [({"rots": []}, "rots is none of roots, folder, "), ({"roots": "a"}, "roots is no list"), ({"roots": [1]}, "roots is no text"), ({"all": 1}, "all is neither true nor false"),
+                ({"kind": "some"}, "kind: some is none of all, code, types"), ({"failOn": ["x"]}, "failOn: x is none of missing, "), ([], "the file is no object")]
+        for value, said in rows:
+            self.configure(value)
+            status, _, errors = ran("check", cwd=self.room)
+            self.assertEqual(status, 2)
+            self.assertTrue(errors.startswith(f"joravelsu: joravelsu.json: {said}"), errors)
+
+    def test_the_schema_has_each_key(self):
+        whole = schema("config.schema.json")
+        self.assertEqual(set(whole["properties"]) - {"$schema"}, set(config.KEYS))
+        options = {word for name, part, _ in usage.commands_of(kit.tool("../joravelsu").options()) if name == "check" for words, _, _ in usage.options_of(part) for word in words}
+        for key, row in whole["properties"].items():
+            word = re.match(r"--[a-z-]+", row.get("description", ""))
+            self.assertTrue(key in ("$schema", "roots") or word[0] in options, key)
+        not_there = {"--help", "--version", "--config", "--json", "--sarif", "--github"}
+        told = {re.match(r"--[a-z-]+", row["description"])[0] for row in whole["properties"].values() if row.get("description", "").startswith("--")}
+        self.assertEqual({word for word in options if word.startswith("--")} - not_there, told)
+
+
+class Usage(unittest.TestCase):
+    def test_versions(self):
+        for words in (["./joravelsu", "--version"], ["./joravelsu", "check", "--version"], ["./joravelsu", "diff", "--version"], ["./graph_tool", "--version"], ["tools/build-library", "--version"],
+                      *([f"tools/{name}", "--version"] for name in ("pack", "explain", "summary", "graph-json", "picture", "unread", "check-bundle"))):
+            done = subprocess.run(words, capture_output=True, text=True, cwd=ROOT, stdin=subprocess.DEVNULL, check=False)
+            self.assertEqual((done.returncode, done.stderr), (0, ""), words)
+            self.assertRegex(done.stdout, rf"^{re.escape(os.path.basename(words[0]))} {re.escape(kit.VERSION)} \(.*program.*\)\n$")
+
+    def test_each_command_has_help(self):
+        for name in ("check", "graph", "unread", "imports", "diff", "man", "completions"):
+            status, out, errors = ran(name, "--help")
+            self.assertEqual((status, errors), (0, ""), name)
+            self.assertIn(f"usage: joravelsu {name} ", out)
+
+    def test_the_man_page(self):
+        status, out, _ = ran("man")
+        self.assertEqual(status, 0)
+        self.assertTrue(out.startswith(".TH JORAVELSU 1 "))
+        for name in ("CHECK", "GRAPH", "UNREAD", "IMPORTS", "DIFF"):
+            self.assertIn(f".SH {name}\n", out)
+        self.assertIn("\\fB\\-\\-fail\\-on\\fR \\fIWORD,..\\fR\n", out)
+        if shutil.which("mandoc") or shutil.which("groff"):
+            words = ["mandoc", "-Tlint"] if shutil.which("mandoc") else ["groff", "-man", "-ww", "-z"]
+            self.assertEqual(subprocess.run(words, input=out, capture_output=True, text=True, check=False).stderr, "")
+
+    def test_bash_completes(self):
+        script = ran("completions", "bash")[1]
+        rows = [("chec", ["check"]), ("check --fail", ["--fail-on"]), ("imports --a", ["--as"]), ("graph --sv", ["--svg"])]
+        for line, wanted in rows:
+            words = ["joravelsu", *line.split(" ")]
+            asked = f"{script}\nCOMP_WORDS=({' '.join(words)}); COMP_CWORD={len(words) - 1}; _joravelsu; echo \"${{COMPREPLY[@]}}\""
+            done = subprocess.run(["bash", "-c", asked], capture_output=True, text=True, check=True)
+            self.assertEqual(done.stdout.split(), wanted)
+
+    def test_other_shells_read_theirs(self):
+        for shell in ("zsh", "fish"):
+            script = ran("completions", shell)[1]
+            self.assertIn("fail-on", script)
+            if shutil.which(shell):
+                self.assertEqual(subprocess.run([shell, "-n"], input=script, capture_output=True, text=True, check=False).stderr, "")
+
+
+if __name__ == "__main__":
+    unittest.main()
