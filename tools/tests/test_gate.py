@@ -39,9 +39,10 @@ class Gate(unittest.TestCase):
         out = io.StringIO()
         gate.tables(list(BELOW), BELOW, ROWS, out)
         first, second = out.getvalue().split("### earlier, kit a")
-        self.assertIn("| `low` | 3 | 20 | 25 |  | 2 | 5 | 30 | 50 |", first)
+        self.assertIn("| `low` | 3 | 20 |  |", first)
+        self.assertIn("| in all | 4 | 27 | 0 |", first)
         self.assertNotIn("`low` | 3", second)
-        self.assertIn("| `high` | 2 | 9 |", second)
+        self.assertIn("| `high` | 2 | 9 | 4 |", second)
         self.assertIn("Not read off: `alone`.", second)
 
 
