@@ -2,6 +2,8 @@
 pub mod Table
 -- how tokens stand
 pub mod Own
+-- tokens that no text has
+pub mod Made
 -- the pieces of a tree
 pub mod Sheet
 -- their lines

@@ -18,6 +18,7 @@ use Rattle.es_printer.specs.declared.piece.Piece.{Piece}
 use Rattle.es_printer.specs.declared.piece.Piece.TheVariants as piece
 use Rattle.es_printer.specs.declared.piece.Last.{Last}
 use Rattle.es_printer.specs.declared.piece.Last.TheVariants as last
+use Rattle.es_printer.specs.Made.{stand_of, kind_of, text_of}
 use Rattle.es_printer.specs.Sheet.{pieces}
 
 -- ---- all rules of blanks
@@ -141,6 +142,7 @@ module _ (x : List ℕ) (ts : List Token) (comments : Option Placed) where
   step p (piece.Leading at) = comment_lines p (leading comments (slice_get ts at))
   step p piece.Close = record { text = p.text; depth = p.depth; last = closed p.last }
   step p (piece.Token s at) = by_token (slice_get ts at) s p
+  step p (piece.Made it) = token (stand_of it) (kind_of it) (text_of it) p
   step p piece.End = semicolon p
   step p piece.BareEnd = bare_end p.last p
   step p piece.Line = line_behind (Some 0) p

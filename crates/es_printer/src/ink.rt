@@ -1,6 +1,7 @@
 //! A text in the making that has parts of a source. Parts that stand there side by side are copied at once.
 
 ghost use Rattle.std.specs.Prelude.{◌≡◌, ◌++◌, ◌∷◌, ◌≤◌, [], OnOk, IfOk, IsTrue, slice_range, string_bytes};
+ghost use Rattle.std.specs.Fmt.{decimal};
 ghost use Rattle.es_printer.specs.Lines.{indent};
 ghost use Rattle.es_printer.specs.Inked.{inked, between};
 
@@ -116,6 +117,16 @@ impl<'a> Ink<'a> {
         copy(&mut self.text, self.source, self.from, self.to)?;
         self.from = self.to;
         self.text.push_str(text)
+    }
+
+    /// A number in decimal.
+    #[tactic(auto, using(crate::proofs::InkLemmas::none_taken))]
+    pub fn push_number(&mut self, number: u32) -> Result<(), AllocError>
+        ensures { OnOk result (self.new ≡ inked (decimal number) self.old) }
+    {
+        copy(&mut self.text, self.source, self.from, self.to)?;
+        self.from = self.to;
+        write!(self.text, "{number}")
     }
 
     /// A line end, and two blanks a step.

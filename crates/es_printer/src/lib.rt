@@ -3,6 +3,7 @@
 
 mod draft;
 mod ink;
+mod made;
 mod page;
 mod piece;
 mod program;
@@ -12,6 +13,10 @@ mod stand;
 mod style;
 mod walk;
 
-pub use piece::{Last, Left, Piece, Right, Stand};
+pub use draft::Draft;
+pub use made::Made;
+pub use page::Page;
+pub use piece::{Last, Left, Piece, Right, Source, Stand};
 pub use program::{print, print_with};
-pub use style::{Ends, Style};
+pub use sheet::{before, behind, up_to};
+pub use style::{Ends, Style, style_of};

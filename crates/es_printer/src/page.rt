@@ -4,9 +4,11 @@ ghost use Rattle.std.specs.Prelude.{◌≡◌, ◌++◌, OnOk, IfOk, string_byte
 ghost use Rattle.std.specs.Option.{option_map};
 ghost use Rattle.es_printer.specs.Inked.{between};
 ghost use Rattle.es_printer.specs.Paper.{lines_of};
+ghost use Rattle.es_printer.specs.Made.{stand_of, kind_of, front_of, number_of, digits_of, text_of};
 ghost use Rattle.es_printer.specs.Lines.{is_apart, joins, gap, write, line_before, line_behind, token, semicolon, bare_end, closed, opened, closed_by, comment_line, comment_lines, leading, step, finished, start};
 
 use crate::ink::Ink;
+use crate::made::{Made, front_of, kind_of, number_of, stand_of};
 use crate::piece::{Last, Left, Piece, Right, Source, Stand};
 use es_comments::MultiThreadedComments;
 use es_token::{Comment, CommentKind, Token, TokenKind};
@@ -195,6 +197,40 @@ impl<'a> Page<'a> {
         self.line_behind(stand.into)
     }
 
+    fn number(&mut self, number: Option<u32>) -> Result<(), AllocError>
+        ensures text { OnOk result (self.new.ink.text ≡ self.old.ink.text ++ digits_of number) }
+        ensures source { OnOk result (self.new.ink.source ≡ self.old.ink.source) }
+        ensures depth { OnOk result (self.new.depth ≡ self.old.depth) }
+    {
+        match number {
+            Some(number) => self.ink.push_number(number),
+            None => Ok(()),
+        }
+    }
+
+    fn write_made(&mut self, left: Left, right: Right, made: Made) -> Result<(), AllocError>
+        ensures lines { OnOk result (lines_of self.new ≡ write left right (kind_of made) (text_of made) (lines_of self.old)) }
+        ensures source { OnOk result (self.new.ink.source ≡ self.old.ink.source) }
+    {
+        let kind = kind_of(made);
+        self.begin(left, kind)?;
+        self.ink.push_str(front_of(made))?;
+        self.number(number_of(made))?;
+        self.last = Last::Token(right, kind);
+        Ok(())
+    }
+
+    /// A token that no text has.
+    fn made(&mut self, made: Made) -> Result<(), AllocError>
+        ensures lines { OnOk result (lines_of self.new ≡ token (stand_of made) (kind_of made) (text_of made) (lines_of self.old)) }
+        ensures source { OnOk result (self.new.ink.source ≡ self.old.ink.source) }
+    {
+        let stand = stand_of(made);
+        self.line_before(stand.out);
+        self.write_made(stand.left, stand.right, made)?;
+        self.line_behind(stand.into)
+    }
+
     fn semicolon(&mut self) -> Result<(), AllocError>
         ensures lines { OnOk result (lines_of self.new ≡ semicolon (lines_of self.old)) }
         ensures source { OnOk result (self.new.ink.source ≡ self.old.ink.source) }
@@ -289,6 +325,7 @@ impl<'a> Page<'a> {
                 Some(token) => self.token(stand, *token),
                 None => Ok(()),
             },
+            Piece::Made(made) => self.made(made),
             Piece::End => self.semicolon(),
             Piece::BareEnd => self.bare_end(),
             Piece::Line => self.line_behind(Some(0)),

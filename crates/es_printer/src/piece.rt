@@ -1,5 +1,6 @@
 //! What is printed, piece by piece, and how it stands on its line.
 
+use crate::made::Made;
 use es_comments::MultiThreadedComments;
 use es_token::{Token, TokenKind};
 
@@ -65,6 +66,8 @@ pub enum Piece {
     Close,
     /// The token of this number.
     Token(Stand, u32),
+    /// A token that no text has.
+    Made(Made),
     /// `;`
     End,
     /// `;`, but none behind a body.

@@ -10,7 +10,7 @@ use es_token::{Token, TokenKind};
 
 // ---- where a token may stand
 
-fn on_line(left: Left, right: Right) -> Stand
+pub fn on_line(left: Left, right: Right) -> Stand
     ensures { result ≡ on_line left right }
 {
     Stand {
@@ -22,7 +22,7 @@ fn on_line(left: Left, right: Right) -> Stand
 }
 
 /// The line ends behind it.
-fn into(deeper: u8, left: Left) -> Stand
+pub fn into(deeper: u8, left: Left) -> Stand
     ensures { result ≡ into deeper left }
 {
     Stand {
@@ -34,7 +34,7 @@ fn into(deeper: u8, left: Left) -> Stand
 }
 
 /// The line ends before it.
-fn out(less: u8, right: Right) -> Stand
+pub fn out(less: u8, right: Right) -> Stand
     ensures { result ≡ out less right }
 {
     Stand {
