@@ -12,6 +12,7 @@ from parts.words import plain
 
 ENDINGS = (".ts", ".tsx", ".mts", ".cts", ".d.ts", ".js", ".mjs", ".cjs", ".jsx", ".json")
 DECLARATIONS = (".d.ts", ".d.mts", ".d.cts")
+TYPES = (".ts", ".tsx", ".mts", ".cts", ".d.ts")
 # What stands for a file of JavaScript: the source of which it is made, or its declaration.
 KIN = {".js": (".ts", ".tsx", ".d.ts"), ".mjs": (".mts", ".d.mts"), ".cjs": (".cts", ".d.cts"), ".jsx": (".tsx", ".d.ts")}
 CONDITIONS = ("import", "module", "default")
@@ -44,6 +45,13 @@ class Ways:
         code = ("browser",) * browser + ("module", "main")
         self.fields = types + code if types_first else code + types
         self.endings = ENDINGS if types_first else sorted(ENDINGS, key=lambda ending: ending in DECLARATIONS)
+        self.takes = None  # of what endings files are, where not any
+
+    def of_types(self):
+        """The same for files of TypeScript alone."""
+        found = Ways(self.conditions, self.browser, self.types_first)
+        found.takes = found.endings = tuple(ending for ending in ENDINGS if ending in TYPES)
+        return found
 
     def turned(self, types_first):
         """The same with types first, or code."""
@@ -129,7 +137,7 @@ class Folder:
         return kin or self.file_with_ending(place, ways) or self.in_folder(place, ways) or self.kin_of(place)
 
     def file_with_ending(self, place, ways):
-        if place and self.is_file(place):
+        if place and self.is_file(place) and (ways.takes is None or place.endswith(ways.takes)):
             return place
         for ending in ways.endings if place else ():
             if self.is_file(place + ending):
@@ -137,9 +145,14 @@ class Folder:
         return None
 
     def in_folder(self, place, ways):
-        """The file for which a folder stands: that of its package.json, or its index."""
+        """The file for which a folder stands: that of its package.json, or its index; with types first one of TypeScript."""
         if not self.is_folder(place):
             return None
+        if ways.types_first and ways.takes is None:
+            return self.in_folder(place, ways.of_types()) or self.in_folder_by(place, ways)
+        return self.in_folder_by(place, ways)
+
+    def in_folder_by(self, place, ways):
         package = self.package(place)
         for key in ways.fields:
             path = package.get(key)
@@ -152,6 +165,8 @@ class Folder:
     def main_of(self, place, key, target, ways):
         """What a field of a package.json names: a file, or a folder with an index, whose own package.json says nothing."""
         found = self.file_with_ending(target, ways) or (self.index_of(target, ways) if self.is_folder(target) else None) or self.kin_of(target)
+        if ways.takes and not found:
+            return None
         if not found and self.is_folder(target) and self.leads_back(place, target, ways):
             raise BadFile(f"{plain(self.path(posixpath.join(place, 'package.json')))}: {key} leads to {plain(target)}, and from there back")
         return found
