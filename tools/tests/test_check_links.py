@@ -74,6 +74,14 @@ class CheckLinks(unittest.TestCase):
         self.put("crates/parser/README.md", "# parser\n")
         self.assertEqual(self.told()[1], ["docs/ARCHITECTURE.md: it has no crate parser", "links: 5 pages, 1 faults"])
 
+    def test_a_crate_that_a_new_statement_visits(self):
+        self.put("docs/ADDING.md", "# Adding\n\nA row.\n")
+        self.assertEqual(self.told()[0], 0)
+        self.put("crates/lexer/specs/Plan.antt", "pub plan : ℕ\nplan = DoStatement\n")
+        self.assertEqual(self.told(), (1, ["docs/ADDING.md: it doesn't name lexer, which knows DoStatement", "links: 4 pages, 1 faults"]))
+        self.put("docs/ADDING.md", "# Adding\n\nA row of `lexer`.\n")
+        self.assertEqual(self.told()[0], 0)
+
     def test_the_first_page_is_short(self):
         self.put("README.md", "# One\n\n" + "word " * 1198)
         self.assertEqual(self.told()[0], 0)
