@@ -172,10 +172,11 @@ class Resolver:
             return Lead(external=True)
         if other != specifier:
             return Lead(other)
-        if specifier in resolve.BUILTINS:
-            return Lead()
         name, _ = resolve.package_name(specifier)
         types = name and (reference == "reference-types" or ways.types_first)
+        if specifier in resolve.BUILTINS:
+            typed = self.folder.in_packages(folder, "@types/" + specifier, ways)[0] if types else None
+            return Lead(typed) if typed and sites.is_declaration(typed) else Lead()
         found, why = self.folder.in_packages(folder, specifier, ways)
         if types and not (found and (sites.is_typescript(found) or reference)):
             typed, _ = self.folder.in_packages(folder, resolve.types_name(name) + specifier[len(name):], ways)

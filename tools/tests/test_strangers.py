@@ -149,6 +149,11 @@ class Time(Strangers):
         self.put("main.ts", "import" + "/**/" * 100_000 + "'./a.ts'; from" + " " * 100_000 + "\n" + "import(" * 100)
         self.in_seconds(20, self.ran, "graph", "--folder", ".", "main.ts")
 
+    def test_a_fault_in_a_long_text(self):
+        self.put("main.ts", "a(b);\n" * 300_000 + "let = ;")
+        status, out, _ = self.in_seconds(30, self.ran, "check", "--folder", ".", "main.ts")
+        self.assertEqual((status, out.split("\n")[0]), (1, "main.ts: its text is no program; in over 1,000,000 characters the place isn't looked for"))
+
     def test_settings(self):
         for text in ('"\\"' * 300_000, "/*" * 500_000, "//" * 500_000, ", " * 300_000, '"\\' * 300_000, "/*/" * 300_000):
             self.in_seconds(10, settings.without_comments, text)
