@@ -104,14 +104,12 @@ def keep(made, name, ending, most=6):
 
 
 def seconds_in_times():
-    """The seconds that docs/TIMES.md has for the proof of each crate."""
-    with open(os.path.join(ROOT, "docs", "TIMES.md"), encoding="utf-8") as file:
-        text = file.read()
-    rows = re.findall(r"(?m)^\| `(\w+)` \|[^|]*\| *([\d,]+) *\|", text)
-    told = re.findall(r"`(\w+)`\s+(?:some\s+)?([\d,]+)(?=[,;.]| and)", text)
+    """The seconds of a processor that bench/times has for the proof of each crate, of its latest day."""
     found = {}
-    for name, number in rows + told:  # where there are two, the greater
-        found[name] = max(found.get(name, 0), int(number.replace(",", "")))
+    with open(os.path.join(ROOT, "bench", "times"), encoding="utf-8") as file:
+        for words in sorted((line.split() for line in file if not line.startswith("#")), key=lambda it: it[1:2]):
+            if len(words) >= 10:
+                found[words[0]] = int(words[4])
     return found
 
 
