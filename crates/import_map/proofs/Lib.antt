@@ -1,3 +1,5 @@
 pub mod json_reading_lemmas
 mod EntriesLemmas
 mod TableLemmas
+mod NamesLemmas
+mod FrontsLemmas

@@ -1,6 +1,6 @@
 -- The longest match of a table, and the search for it from the whole text down.
-use Rattle.std.proofs.Common.{zero, suc, ◌≡◌, ◌≤◌, ◌<◌, ◌+◌, ◌++◌, ◌-◌, ◌⊎◌, inl, inr, ℕ, Bool, true, false, cond, List, [], ◌∷◌, length, take, drop, get_or, refl, sym, ◌∙◌, ap, subst, arith, rules, Option, Some, None, MatchOption, IfSome, Decides, Ok, Err}
-use Rattle.std.specs.Prelude.{bytes_eq, ◌&&◌, ◌||◌, ◌==◌, slice_index, nat_lt, is_some, option_and_then, if◌then◌else◌}
+use Rattle.std.proofs.Common.{◌≡◌, ◌≤◌, ◌<◌, ◌++◌, ◌-◌, ◌⊎◌, inl, inr, ℕ, Bool, true, false, cond, List, [], ◌∷◌, length, take, drop, refl, sym, ◌∙◌, ap, subst, arith, rules, Option, Some, None, MatchOption, IfSome, Ok, Err}
+use Rattle.std.specs.Prelude.{bytes_eq, ◌&&◌, ◌||◌, ◌==◌, slice_index, nat_lt, is_some, min}
 use Rattle.std.specs.List.{AllByRecursion}
 use Rattle.std.specs.List.Sorted.{IsStrictlySortedBy}
 use Rattle.std.specs.Map.{keys_of}
@@ -10,13 +10,14 @@ use Rattle.std.specs.declared.cmp.Ordering.{Ordering}
 use Rattle.std.specs.declared.cmp.Ordering.TheVariants.{Less, Equal, Greater}
 use Rattle.std.proofs.lemmas.Bool.{false≢true}
 use Rattle.std.proofs.lemmas.Slice.Eq.{bytes_eq-Decides}
-use Rattle.std.proofs.lemmas.Map.Keys.{sorted_tail}
 use Rattle.std.proofs.lemmas.List.{length-take, length-take-le, get_or-take, take_all, take-append-drop}
 use Rattle.url.specs.Parts.{Parts, serialize}
 use Rattle.url.specs.Parser.{Parsed}
 use Rattle.lexical_path.specs.Specifiers.{begins}
 use Rattle.import_map.specs.ImportMap.{Table, Addresses, longer, longest, is_match, ends_with_slash, match_in, scoped_match, match_of, or_else, MapData, with_key, with_scope}
 use Rattle.import_map.specs.Order.{IsInOrder, entry_at, entry_at_front, match_of_entry, AreInOrder}
+use Rattle.import_map.specs.Names.{AreWithin}
+use Rattle.import_map.specs.Fronts.{AreFrontsWithin}
 use Rattle.import_map.proofs.EntriesLemmas.{text_cmp, bytes_eq-unequal}
 
 -- equal by their bytes
@@ -185,8 +186,8 @@ longest_found {V} passes key (f ∷ es) e found is best =
 -- ---- keys that match are fronts
 
 -- a key that a text begins with is its front
-begins_front : (text key : List ℕ) → begins text key ≡ true → key ≡ take (length key) text
-begins_front text key h = equal key (take (length key) text) h
+pub front_of : (text key : List ℕ) → begins text key ≡ true → key ≡ take (length key) text
+front_of text key h = equal key (take (length key) text) h
 
 whole_front : (text key : List ℕ) → text ≡ key → key ≡ take (length key) text
 whole_front text key same =
@@ -204,7 +205,7 @@ match_front fronts text key h = by (bytes_eq text key) refl fronts (ends_with_sl
     by : (a : Bool) → bytes_eq text key ≡ a → (f b : Bool) → ends_with_slash key ≡ b → (c : Bool) → begins text key ≡ c
         → (a || (f && (b && c))) ≡ true → (key ≡ take (length key) text) × EndsSo text key
     by true same f b ends c front is = (whole_front text key (equal text key same), inl same)
-    by false same true true ends true front is = (begins_front text key front, inr ends)
+    by false same true true ends true front is = (front_of text key front, inr ends)
     by false same true true ends false front is = absurd (false≢true is)
     by false same true false ends c front is = absurd (false≢true is)
     by false same false b ends c front is = absurd (false≢true is)
@@ -335,6 +336,20 @@ down_more {V} passes fronts text table end sub down some why = record {
         (cases (length o.0) end (short p)))
         table none down.most
 
+-- fewer bytes: no front that is a key has more
+pub down_within : {V : Type 0} (passes : List ℕ × V → Bool) (fronts : Bool) (text : List ℕ) (table : Table V)
+    (end most : ℕ)
+    → ((o : List ℕ × V) → passes o ≡ true → is_match fronts text o.0 ≡ true)
+    → IsDown passes text table end → AreFrontsWithin text end most table → most ≤ end → IsDown passes text table most
+down_within {V} passes fronts text table end most sub down within le = record {
+  within = omega (arith, down.within);
+  exact = down.exact;
+  most = all_map2 (λ (o : List ℕ × V). passes o ≡ true → length o.0 ≤ end)
+      (λ (o : List ℕ × V). o.0 ≡ take (length o.0) text → length o.0 ≤ end → length o.0 ≤ most)
+      (λ (o : List ℕ × V). passes o ≡ true → length o.0 ≤ most)
+      (λ o short few p. few (match_front fronts text o.0 (sub o p)).0 (short p)) table down.most within;
+}
+
 -- at the end nothing passes
 pub down_end : {V : Type 0} (passes : List ℕ × V → Bool) (fronts : Bool) (text : List ℕ) (table : Table V) (end : ℕ)
     → ((o : List ℕ × V) → passes o ≡ true → is_match fronts text o.0 ≡ true)
@@ -403,7 +418,7 @@ exact_none text table none =
 -- a text that begins with a key is the key and what follows
 pub begins_splits : (text key : List ℕ) → begins text key ≡ true → text ≡ key ++ drop (length key) text
 begins_splits text key h =
-    sym (ap (λ k. k ++ drop (length key) text) (begins_front text key h) ∙ take-append-drop (length key) text)
+    sym (ap (λ k. k ++ drop (length key) text) (front_of text key h) ∙ take-append-drop (length key) text)
 
 -- the entry at the text
 pub match_whole : (fronts : Bool) (text : List ℕ) (table : Addresses) (e : List ℕ × Option Parts)
@@ -459,6 +474,10 @@ and_left : (a b : Bool) → (a && b) ≡ true → a ≡ true
 and_left true b h = refl
 and_left false b h = absurd (false≢true h)
 
+and_right : (a b : Bool) → (a && b) ≡ true → b ≡ true
+and_right true b h = h
+and_right false b h = absurd (false≢true h)
+
 scope_sub : (fronts : Bool) (text referrer : List ℕ) (o : List ℕ × Addresses)
     → passes_scope fronts text referrer o ≡ true
     → is_match true referrer o.0 ≡ true
@@ -502,12 +521,25 @@ scoped_whole fronts text referrer scopes x found =
     (scope_sub fronts text referrer) (omega arith)
     (most_all (passes_scope fronts text referrer) true referrer scopes (scope_sub fronts text referrer))))
 
-pub scoped_start : (fronts : Bool) (text referrer : List ℕ) (scopes : Table Addresses) → IsInOrder scopes
-    → match_of_entry fronts text (entry_at scopes referrer) ≡ None
-    → IsDown (passes_scope fronts text referrer) referrer scopes (length referrer)
-scoped_start fronts text referrer scopes sorted none =
-    down_start (passes_scope fronts text referrer) true referrer scopes (scope_sub fronts text referrer)
-    (scope_none fronts text referrer referrer scopes (entry_at scopes referrer) refl sorted none)
+-- the search begins where no longer scope has a match
+pub scoped_start : (fronts : Bool) (text referrer : List ℕ) (scopes : Table Addresses) (most : ℕ) → IsInOrder scopes
+    → AreWithin fronts text most scopes → match_of_entry fronts text (entry_at scopes referrer) ≡ None
+    → IsDown (passes_scope fronts text referrer) referrer scopes (min (length referrer) most)
+scoped_start fronts text referrer scopes most sorted within none = record {
+  within = search (rules, arith);
+  exact = scope_none fronts text referrer referrer scopes (entry_at scopes referrer) refl sorted none;
+  most = all_map2 (λ (o : List ℕ × Addresses). is_some (match_in fronts text o.1) ≡ true → length o.0 ≤ most)
+      (λ (o : List ℕ × Addresses). passes_scope fronts text referrer o ≡ true → length o.0 ≤ length referrer)
+      (λ (o : List ℕ × Addresses). passes_scope fronts text referrer o ≡ true
+      → length o.0 ≤ min (length referrer) most)
+      (λ o few short p. least (length o.0) (length referrer) most (short p)
+      (few (and_right (is_match true referrer o.0) (is_some (match_in fronts text o.1)) p)))
+      scopes within
+      (most_all (passes_scope fronts text referrer) true referrer scopes (scope_sub fronts text referrer));
+}
+  where
+    least : (a b c : ℕ) → a ≤ b → a ≤ c → a ≤ min b c
+    least a b c h g = search (rules, arith)
 
 pub scoped_found : (fronts : Bool) (text referrer : List ℕ) (scopes : Table Addresses) (end : ℕ)
     (x : List ℕ × Option Parts)
@@ -581,6 +613,17 @@ front_in_order scopes text end h = by (slice_index text (end - 1) == 47)
     by : (b : Bool) → IfSome (cond b (entry_at scopes (take end text)) None) (λ e. IsInOrder e.1)
     by true = scope_in_order scopes (take end text) h
     by false = tt
+
+-- the same of a table and of scopes
+pub match_within : (text : List ℕ) (table : Addresses) (end most : ℕ) → IsDown (passes_in true text) text table end
+    → AreFrontsWithin text end most table → most ≤ end → IsDown (passes_in true text) text table most
+match_within text table end most = down_within (passes_in true text) true text table end most (λ o p. p)
+
+pub scoped_within : (fronts : Bool) (text referrer : List ℕ) (scopes : Table Addresses) (end most : ℕ)
+    → IsDown (passes_scope fronts text referrer) referrer scopes end → AreFrontsWithin referrer end most scopes
+    → most ≤ end → IsDown (passes_scope fronts text referrer) referrer scopes most
+scoped_within fronts text referrer scopes end most =
+    down_within (passes_scope fronts text referrer) true referrer scopes end most (scope_sub fronts text referrer)
 
 -- ---- what a match is
 

@@ -3,3 +3,5 @@ pub mod json_reading
 pub mod ImportMap
 pub mod Order
 pub mod Follow
+pub mod Fronts
+pub mod Names

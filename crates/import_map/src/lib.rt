@@ -8,8 +8,10 @@
 #![tactic(auto)]
 
 mod follow;
+mod fronts;
 pub mod json_reading;
 mod map;
+mod names;
 mod read;
 mod table;
 

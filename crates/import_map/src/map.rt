@@ -5,9 +5,11 @@ ghost use Rattle.serde_json.specs.View.{view};
 ghost use Rattle.url.specs.Parts.{serialize};
 ghost use Rattle.specifier_resolver.specs.Resolver.{IsResolved};
 ghost use Rattle.import_map.specs.ImportMap as spec;
+ghost use Rattle.import_map.specs.Order.{IsInOrder, AreInOrder};
 
 use crate::follow::led_by;
 use crate::json_reading::Reading;
+use crate::names::{Names, names_of, reach};
 use crate::read::{imports_at, scopes_at, url_like};
 use crate::table::{Addresses, match_in, scoped_match};
 use base::{Items, Text};
@@ -23,17 +25,18 @@ use url::Url;
 pub struct ImportMap {
     imports: Addresses,
     scopes: Items<(Text, Addresses)>,
+    names: Names,
 }
 
 impl Model for ImportMap {
     ghost use Rattle.import_map.specs.ImportMap.{MapData};
-    ghost use Rattle.import_map.specs.Order.{IsOrdered};
+    ghost use Rattle.import_map.specs.Names.{IsKept};
 
     ghost Value = { MapData };
 
     ghost view = { λ m. record { imports = m.imports; scopes = m.scopes } };
 
-    ghost invariant = { λ m. IsOrdered (record { imports = m.imports; scopes = m.scopes }) };
+    ghost invariant = { λ m. IsKept (record { imports = m.imports; scopes = m.scopes }) m.names };
 }
 
 /// Why a value is no import map.
@@ -80,18 +83,50 @@ fn map_with(alloc: Global, value: &Value, base: &Url) -> Result<Reading<ImportMa
         Err(at) => return Ok(Err(at)),
     };
     match scopes_at(alloc, base, value)? {
-        Ok(scopes) => Ok(Ok(ImportMap { imports, scopes })),
+        Ok(scopes) => Ok(Ok(named(alloc, imports, scopes)?)),
         Err(at) => Ok(Err(at)),
     }
 }
 
+// The import map of these tables.
+fn named(
+    alloc: Global,
+    imports: Addresses,
+    scopes: Items<(Text, Addresses)>,
+) -> Result<ImportMap, AllocError>
+    requires imports { IsInOrder imports }
+    requires scopes { AreInOrder scopes }
+    ensures { IfOk result (λ m. m ≡ record { imports = imports; scopes = scopes }) }
+{
+    let names = names_of(alloc, scopes.as_slice())?;
+    Ok(ImportMap {
+        imports,
+        scopes,
+        names,
+    })
+}
+
 impl ImportMap {
+    // The match of the scope that decides on a text.
+    #[tactic(auto, using(crate::proofs::NamesLemmas::scopes_within))]
+    fn scoped_match_of(
+        &self,
+        text: &[u8],
+        fronts: bool,
+        referrer: &[u8],
+    ) -> Option<&(Text, Option<Url>)>
+        ensures { option_copied result ≡ spec.scoped_match fronts text.now referrer.now self.now.scopes }
+    {
+        let most = reach(self.names.as_slice(), text, fronts);
+        scoped_match(self.scopes.as_slice(), text, fronts, referrer, most)
+    }
+
     // The match that decides on a text.
     fn match_of(&self, text: &str, fronts: bool, referrer: &str) -> Option<&(Text, Option<Url>)>
         ensures { option_copied result ≡ spec.match_of self.now fronts text.now referrer.now }
     {
         let text = text.as_bytes();
-        match scoped_match(self.scopes.as_slice(), text, fronts, referrer.as_bytes()) {
+        match self.scoped_match_of(text, fronts, referrer.as_bytes()) {
             Some(found) => Some(found),
             None => match_in(self.imports.as_slice(), text, fronts),
         }

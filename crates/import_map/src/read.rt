@@ -9,7 +9,7 @@ ghost use Rattle.import_map.specs.ImportMap as spec;
 ghost use Rattle.import_map.specs.Order.{IsInOrder, AreInOrder};
 
 use crate::json_reading::{Reading, escaped, pointer};
-use crate::table::Addresses;
+use crate::table::{Addresses, listed};
 use base::{Items, Text};
 use lexical_path::has_relative_prefix;
 use serde_json::{Map, Value};
@@ -62,17 +62,6 @@ fn addresses_in(
         add_import(alloc, base, &mut table, key.as_str(), value)?;
     }
     listed(alloc, table)
-}
-
-// The entries of a map, in their order.
-fn listed<V: Drop>(alloc: Global, table: BTreeMap<Text, V>) -> Result<Items<(Text, V)>, AllocError>
-    ensures entries { IfOk result (λ list. list ≡ table.entries) }
-    ensures in_order { IfOk result (λ list. IsInOrder list) }
-{
-    // The proof learns from it that the map is in order.
-    let _count = table.len();
-    let list: Vec<(Text, V)> = table.into_iter().collect(alloc)?;
-    Ok(Items::from_vec(list))
 }
 
 fn add_import(

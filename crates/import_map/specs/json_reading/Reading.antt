@@ -1,10 +1,10 @@
 -- What a JSON value (RFC 8259) says, or where the first thing stands that keeps it from saying it (RFC 6901, "JSON
 -- Pointer").
-use Rattle.std.specs.Prelude.{◌≡◌, ℕ, ◌+◌, ◌==◌, Bool, List, [], ◌∷◌, ◌++◌, codes, chars, encode_utf8_all, decimal, flat_map, Option, Some, None, Result, Ok, Err, if◌then◌else◌}
+use Rattle.std.specs.Prelude.{ℕ, ◌+◌, ◌==◌, Bool, List, [], ◌∷◌, ◌++◌, codes, chars, encode_utf8_all, decimal, flat_map, Option, Some, None, Result, Ok, Err, if◌then◌else◌}
 use Rattle.serde_json.specs.Data.{Data, Items, no_items, item, Members, no_members, member}
 use Rattle.serde_json.specs.Find.{get, as_object, as_array, as_str, as_bool}
 use Rattle.url.specs.Parts.{Parts}
-use Rattle.url.specs.Parser.{Parsed, parse_url}
+use Rattle.url.specs.Parser.{parse_url}
 
 -- what a value says, or the pointer from it to what is at fault
 abbrev pub Reading : Type 0 → Type 0

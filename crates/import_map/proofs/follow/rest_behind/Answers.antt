@@ -1,4 +1,4 @@
-use Rattle.std.proofs.Common.{◌≡◌, length, drop, MatchOption, subst}
+use Rattle.std.proofs.Common.{length, drop}
 use Rattle.import_map.proofs.TableLemmas.{begins_splits}
 use Rattle.import_map.proofs.follow.rest_behind.Goals as goal
 

@@ -1,5 +1,4 @@
-use Rattle.std.proofs.Common.{sym, subst, ◌≡◌, None, Bool}
-use Rattle.import_map.specs.ImportMap.{match_in}
+use Rattle.std.proofs.Common.{sym}
 use Rattle.import_map.proofs.TableLemmas.{exact_none}
 use Rattle.import_map.proofs.table.front_if.Goals as goal
 

@@ -1,6 +1,6 @@
 use Rattle.std.proofs.Common.{◌∙◌, ap, sym}
 use Rattle.std.specs.Option.{option_copied}
-use Rattle.import_map.proofs.TableLemmas.{match_whole, exact_none}
+use Rattle.import_map.proofs.TableLemmas.{match_whole}
 use Rattle.import_map.proofs.table.match_in.Goals as goal
 
 pub returns-in-Some : goal.returns-in-Some

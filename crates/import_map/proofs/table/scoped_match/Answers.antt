@@ -5,7 +5,7 @@ use Rattle.import_map.proofs.TableLemmas.{scoped_whole, scope_in_order}
 use Rattle.import_map.proofs.table.scoped_match.Goals as goal
 
 pub match_at-requires : goal.match_at-requires
-match_at-requires c = rw c.at.ensures (scope_in_order c.args.scopes.now c.args.referrer.now c.requires.each)
+match_at-requires c = rw c.at.ensures (scope_in_order c.args.scopes.now c.args.referrer.now c.requires.in_order.each)
 
 pub returns-in-Some : goal.returns-in-Some
 returns-in-Some c =
