@@ -1,4 +1,4 @@
 pub mod EndLemmas
 pub mod KnownLemmas
-mod ModifierLemmas
-mod PastLemmas
+pub mod ModifierLemmas
+pub mod PastLemmas

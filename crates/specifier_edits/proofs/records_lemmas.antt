@@ -1,1 +1,1 @@
-mod RecordLemmas
+pub mod RecordLemmas
