@@ -23,13 +23,19 @@ class Bundle:
         try:
             value = json.loads(data)
             modules = value["modules"]
-            self.value = value
             self.modules = {}
             for module in modules:
                 self.modules[url_of(module["specifier"])] = module
         except (ValueError, KeyError, TypeError) as error:
             raise NoBundle("the bundle can't be read; tools/check-bundle says what is wrong with it") from error
         self.sources = {}
+
+    @classmethod
+    def of_contents(cls, contents):
+        """The bundle of these contents, by specifier."""
+        made = cls.__new__(cls)
+        made.modules, made.sources = contents, {}
+        return made
 
     def bytes_of(self, specifier):
         """The bytes that a module has, or None."""

@@ -1,10 +1,11 @@
 """One run of ./joravelsu: the folder of the project, its bundle, the program, the report and its graph."""
 import argparse
+import functools
 import json
 import os
 import sys
 
-from parts import bundles, config, faults, kit, packing, program, project, report, resolve, sites, unproved
+from parts import bundles, config, faults, kit, packing, program, project, records, report, resolve, sites, unproved
 from parts.words import Wrong, plain, read_regular
 from parts.words import say as said
 
@@ -49,8 +50,11 @@ class Run:
         status, self.report = self.program.report(self.data)
         if status:
             raise Wrong(f"there is no graph: {self.report.decode().strip()}")
-        self.graph = report.graph_of(self.report)
-        self.bundle = bundles.Bundle(self.data)
+        self.bundle = bundles.Bundle.of_contents(packer.by_specifier())
+
+    @functools.cached_property
+    def graph(self):
+        return report.graph_of(self.report)
 
     def configure(self, choices):
         """Takes what joravelsu.json says, and then what is said where nothing is."""
@@ -83,11 +87,14 @@ class Run:
     def packed(self):
         """The packer of the project's folder: of a greater one where a specifier leads out of it and there is one."""
         folders = [os.path.abspath(self.asked.folder)] if self.asked.folder else project.folders_of(self.paths)
+        kept = None if self.asked.no_cache else records.Records(self.program)
         for number, folder in enumerate(folders):
-            packer, roots = packing.packed(self.settled(folder), sites.Reader(self.program), sys.stderr)
+            packer, roots = packing.packed(self.settled(folder), sites.Reader(self.program, kept, self.asked.check_cache), sys.stderr)
             if not packer.leads_out or number == len(folders) - 1:
                 break
             say(f"{plain(packer.leads_out[0])} leads out of {plain(os.path.relpath(folder))}: {plain(os.path.relpath(folders[number + 1]))} is packed in its place")
+        if kept:
+            kept.save()
         return packer, roots
 
     def settled(self, folder):

@@ -76,6 +76,20 @@ class Resolver:
         self.map, self.told = import_maps.of_deno(folder, asked.deno) if asked.deno else (None, None)
         self.ways = resolve.Ways(asked.conditions, asked.browser, asked.kind == "types")
         self.known = {}
+        self.urls = {}
+
+    def url(self, place, specifier):
+        """The URL that a specifier of a file is read as, NoUrl where it can't be; None for a bare one."""
+        key = posixpath.dirname(place), specifier
+        if key not in self.urls:
+            try:
+                if specifier.startswith(("./", "../", "/")):
+                    self.urls[key] = urls.joined(urls.of_file(place), specifier)
+                else:
+                    self.urls[key] = urls.url_of(specifier) if urls.URL.match(specifier) else None
+            except urls.NoUrl as error:
+                self.urls[key] = error
+        return self.urls[key]
 
     def lead(self, place, site, ways=None):
         """Where a site of a file leads."""
@@ -106,10 +120,9 @@ class Resolver:
             return Lead(external=True)
         if resolve.joined(posixpath.dirname(place), specifier.split("?")[0].split("#")[0]) is None and not specifier.startswith("/"):
             return Lead(reason="it leads out of the folder")
-        try:
-            url = urls.joined(urls.of_file(place), specifier)
-        except urls.NoUrl as error:
-            return Lead(reason=str(error))
+        url = self.url(place, specifier)
+        if isinstance(url, urls.NoUrl):
+            return Lead(reason=str(url))
         lead = self.at_file(url, ways)
         return self.in_this_folder(lead, "a path that begins with / begins at the folder") if specifier.startswith("/") else lead
 
@@ -341,9 +354,8 @@ class Packer:
         value = site.value
         if not (lead.place or lead.url or lead.external) or not is_utf8(value):
             return
-        try:
-            url = urls.joined(urls.of_file(place), value) if value.startswith(("./", "../", "/")) else urls.url_of(value) if urls.URL.match(value) else None
-        except urls.NoUrl:
+        url = self.resolver.url(place, value)
+        if isinstance(url, urls.NoUrl):
             return
         target = urls.of_file(lead.place) if lead.place else lead.url or url or "external:" + value
         if lead.external:
@@ -355,13 +367,9 @@ class Packer:
 
     def leads_nowhere(self, place, site, lead):
         value = site.value
-        try:
-            if value.startswith(("./", "../", "/")):
-                self.reasons[urls.joined(urls.of_file(place), value)] = lead.reason
-            elif urls.URL.match(value):
-                self.reasons[urls.url_of(value)] = lead.reason
-        except urls.NoUrl:
-            pass
+        url = self.resolver.url(place, value)
+        if isinstance(url, str):
+            self.reasons[url] = lead.reason
         self.reasons.setdefault(value, lead.reason)
         if lead.url:
             self.reasons.setdefault(lead.url, lead.reason)
@@ -397,8 +405,12 @@ class Packer:
 
     # ---- the whole
 
+    def by_specifier(self):
+        """What the bundle has for each module, by its specifier."""
+        return {urls.of_file(place): self.contents[place] for place in sorted(self.taken, key=in_order)}
+
     def bundle(self, roots):
-        modules = [{"specifier": urls.of_file(place), **self.contents[place]} for place in sorted(self.taken, key=in_order)]
+        modules = [{"specifier": specifier, **content} for specifier, content in self.by_specifier().items()]
         taken = {module["specifier"] for module in modules}
         modules += [{"specifier": url, "redirect": to} for url, to in sorted(self.redirects.items()) if url not in taken]
         modules += [{"specifier": url, "external": True} for url in sorted(self.external) if url not in taken]
@@ -413,8 +425,7 @@ class Packer:
         rows = self.import_map()
         if rows["imports"]:
             value["importMap"] = {"base": "file:///", "map": rows}
-        value["modules"] = modules
-        return json.dumps(value, indent=1, ensure_ascii=False) + "\n"
+        return text_of(value, modules)
 
     def tell(self):
         """What was left out, and which bare specifiers lead nowhere: of very many those that most files name."""
@@ -443,6 +454,13 @@ class Packer:
         largest = sorted(self.taken, key=lambda place: -self.sizes[place])[:LARGEST]
         rows = "".join(f"\n  {self.sizes[place]:>12,}  {plain(place)}" for place in largest)
         raise Wrong(f"too large: {size:,} bytes, and the program reads at most {MOST_BYTES:,}; --exclude leaves out; the largest of {len(self.taken):,} files:{rows}")
+
+
+def text_of(value, modules):
+    """The text of a bundle, laid out as json.dumps does with an indent of 1, whose encoder is a slow one."""
+    head = json.dumps(value, indent=1, ensure_ascii=False)[:-2]
+    rows = ",\n".join("  {\n" + ",\n".join(f'   "{key}": {json.dumps(item, ensure_ascii=False)}' for key, item in module.items()) + "\n  }" for module in modules)
+    return f'{head},\n "modules": [' + (f"\n{rows}\n ]" if rows else "]") + "\n}\n"
 
 
 def shown(specifier):

@@ -5,7 +5,7 @@ import re
 
 from parts import report
 from parts.resolve import DECLARATIONS
-from parts.words import MOST_BYTES
+from parts.words import MOST_BYTES, Wrong, plain
 
 SOURCES = (".ts", ".mts", ".cts", ".tsx", ".js", ".mjs", ".cjs", ".jsx")
 TYPESCRIPT = (".ts", ".mts", ".cts", ".tsx")
@@ -56,12 +56,31 @@ def is_followed(kind, place, site):
 class Reader:
     """Asks the program for the sites of files."""
 
-    def __init__(self, program):
+    def __init__(self, program, records=None, compares=False):
+        """records: what is kept of texts that were read before. compares: read all the same, and see that it is what is kept."""
         self.program = program
+        self.records = records
+        self.compares = compares
         self.of_data = {}  # of each data: URL that is met, those of what it holds
 
     def read(self, contents):
         """The sites of each file, by place, of a dictionary from places to what the bundle has for them."""
+        if not self.records:
+            return self.read_anew(contents)
+        found = {place: self.records.get(place, content) for place, content in contents.items()}
+        if self.compares:
+            anew = self.read_anew(contents)
+            for place, sites in found.items():
+                if sites is not None and sites != list(anew[place]):
+                    raise Wrong(f"{plain(place)}: what is cached of it isn't what the program says")
+            return anew
+        new = self.read_anew({place: contents[place] for place, sites in found.items() if sites is None})
+        for place, sites in new.items():
+            if not any(site.value.startswith("data:") for site in sites):
+                self.records.put(place, contents[place], sites)
+        return {**found, **new}
+
+    def read_anew(self, contents):
         found, part, size = {}, {}, 0
         for place, content in contents.items():
             length = len(next(iter(content.values())))

@@ -120,8 +120,36 @@ def alone(name, told):
         yield
 
 
+def times_of(crate):
+    """What the times and sizes of all that the compiled crate is made of are, as a checksum: quick to make."""
+    listed = kits.listed_crates()
+    files = [os.path.join(kits.kit(), "KIT-ID"), os.path.join(kits.ROOT, "crates.txt"), os.path.abspath(__file__)]
+    for name in sorted(kits.crates_below(crate, listed)):
+        files += kits.sources_of(name)
+    rows = [(path, it.st_size, it.st_mtime_ns, it.st_ctime_ns, it.st_ino) for path, it in ((path, os.stat(path)) for path in files)]
+    return hashlib.sha256(repr((crate, rows)).encode()).hexdigest()
+
+
 def sum_of(crate):
-    """A checksum of all that the compiled crate is made of."""
+    """A checksum of all that the compiled crate is made of; it is made again only where a time or a size is another."""
+    times, place = times_of(crate), os.path.join(kits.KEPT, f"{crate}.sum")
+    try:
+        with open(place, encoding="ascii") as file:
+            known, found = file.read().split()
+        if known == times and os.stat(place).st_uid == os.getuid():
+            return found
+    except (OSError, ValueError):
+        pass
+    found = sum_anew(crate)
+    with contextlib.suppress(OSError):
+        os.makedirs(kits.KEPT, mode=0o700, exist_ok=True)
+        with open(f"{place}.{os.getpid()}", "w", encoding="ascii") as file:
+            file.write(f"{times} {found}")
+        os.replace(f"{place}.{os.getpid()}", place)
+    return found
+
+
+def sum_anew(crate):
     found = hashlib.sha256()
     listed = kits.listed_crates()
     with open(os.path.join(kits.kit(), "KIT-ID"), "rb") as file:

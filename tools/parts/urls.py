@@ -10,6 +10,8 @@ KEPT_OF_FILE = "!$&'()*+,/:;=@[]|"
 OF_HOST = re.compile(r'[\x00-\x20"#%/:<>?@\[\\\]^`{|}\x7f]')
 URL = re.compile(r"[A-Za-z][A-Za-z0-9+.-]*:")
 BLANKS = "".join(map(chr, range(0x21)))
+# Characters that a URL has as they are, and that mean nothing in it but / and the dots.
+PLAIN = re.compile(r"[A-Za-z0-9_./@$+~-]*")
 
 
 class NoUrl(Exception):
@@ -117,6 +119,26 @@ def url_of(text):
 
 def joined(base, reference):
     """The URL that a relative or rooted reference in a file: module leads to."""
+    if PLAIN.fullmatch(reference) and PLAIN.fullmatch(base, len("file:")) and not reference.startswith("//"):
+        path = reference if reference.startswith("/") else base[len("file://"):base.rindex("/") + 1] + reference
+        return "file://" + (without_dots(path) if "/." in path else path)
+    return joined_by_the_rules(base, reference)
+
+
+def without_dots(path):
+    """A path of plain characters without . and .. in it."""
+    kept, names = [], path.split("/")[1:]
+    for name in names:
+        if name == "..":
+            del kept[-1:]
+        elif name != ".":
+            kept.append(name)
+    if names[-1] in (".", ".."):
+        kept.append("")
+    return "/" + "/".join(kept)
+
+
+def joined_by_the_rules(base, reference):
     found = re.match(r"([^?#]*)(\?[^#]*)?(#.*)?$", plain(reference).replace("\\", "/"), re.DOTALL)
     path, rest = found[1], (found[2] or "") + (found[3] or "")
     if path.startswith("//"):
@@ -128,7 +150,7 @@ def joined(base, reference):
 
 def of_file(path):
     """The URL of a path from the folder that is packed."""
-    return "file:///" + quote(path, safe=KEPT_OF_FILE)
+    return "file:///" + (path if PLAIN.fullmatch(path) else quote(path, safe=KEPT_OF_FILE))
 
 
 def to_file(url):
@@ -136,6 +158,8 @@ def to_file(url):
     name has an encoded / or leads up, as Node has it."""
     if not url.startswith("file:///"):
         return None
+    if PLAIN.fullmatch(url, len("file:///")) and "/." not in url:
+        return url[len("file:///"):]
     names = re.split(r"[?#]", url[len("file:///"):], maxsplit=1)[0].split("/")
     try:
         names = [unquote(name, errors="strict") for name in names]

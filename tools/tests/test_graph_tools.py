@@ -1,6 +1,7 @@
 """tools/summary, graph-json, unread and the shared parts, on small reports and bundles."""
 import json
 import os
+import random
 import subprocess
 import sys
 import tempfile
@@ -8,7 +9,7 @@ import unittest
 
 TOOLS = os.path.dirname(os.path.dirname(os.path.abspath(__file__)))
 sys.path.insert(0, TOOLS)
-from parts import bundles, kit, report, resolve, scan, settings, tsconfig, urls  # noqa: E402
+from parts import bundles, kit, packing, records, report, resolve, scan, settings, sites, tsconfig, urls, words  # noqa: E402
 
 unread = kit.tool("unread")
 prove = kit.tool("prove")
@@ -210,11 +211,91 @@ class Resolve(unittest.TestCase):
                 tsconfig.Paths(self.folder, self.put("other.json", text))
 
 
+class Program:
+    """A program that counts what it is asked, and finds one import in each text."""
+
+    def __init__(self, path):
+        self.path = path
+        self.asked = []
+
+    def report(self, data):
+        names = [module["specifier"] for module in json.loads(data)["modules"]]
+        self.asked.append(len(names))
+        lines = [f'{name} module TypeScript 1\n  import 0-1 "./a" - -> file:///a' for name in names]
+        return 0, "\n".join(lines).encode()
+
+
+class Records(unittest.TestCase):
+    def setUp(self):
+        room = tempfile.TemporaryDirectory()
+        self.addCleanup(room.cleanup)
+        kept, kit.KEPT = kit.KEPT, room.name
+        self.addCleanup(setattr, kit, "KEPT", kept)
+        self.program = Program(os.path.join(room.name, "program"))
+        with open(self.program.path, "w", encoding="utf-8"):
+            pass
+
+    def read(self, contents):
+        kept = records.Records(self.program)
+        found = sites.Reader(self.program, kept).read(contents)
+        kept.save()
+        return found
+
+    def test_only_what_changed_is_read(self):
+        first = {"a.ts": {"text": "1"}, "b.ts": {"text": "2"}, "b.js": {"text": "2"}}
+        wanted = dict.fromkeys(first, [sites.Site("import", "./a")])
+        self.assertEqual(self.read(first), wanted)
+        self.assertEqual(self.read(first), wanted)
+        self.assertEqual(list(self.read({**first, "a.ts": {"text": "3"}, "c.ts": {"text": "2"}})), ["a.ts", "b.ts", "b.js", "c.ts"])
+        self.assertEqual(self.program.asked, [3, 1])
+
+    def test_what_is_kept_is_compared(self):
+        self.read({"a.ts": {"text": "1"}})
+        kept = records.Records(self.program)
+        self.assertEqual(sites.Reader(self.program, kept, True).read({"a.ts": {"text": "1"}, "b.ts": {"text": "2"}}), dict.fromkeys(("a.ts", "b.ts"), [sites.Site("import", "./a")]))
+        kept.rows[kept.key("a.ts", {"text": "1"})] = [["import", "./b"]]
+        with self.assertRaisesRegex(words.Wrong, "^a.ts: what is cached of it isn't what the program says$"):
+            sites.Reader(self.program, kept, True).read({"a.ts": {"text": "1"}})
+
+    def test_records_of_another_program_or_shape_are_none(self):
+        first = {"a.ts": {"text": "1"}}
+        self.read(first)
+        path = records.Records(self.program).path
+        for text in ("[]", "{", "", '{"x": 1}'):
+            with open(path, "w", encoding="utf-8") as file:
+                file.write(text)
+            self.read(first)
+        with open(self.program.path, "w", encoding="utf-8") as file:
+            file.write("another")
+        self.read(first)
+        self.assertEqual(self.program.asked, [1] * 6)
+
+
 class Parts(unittest.TestCase):
     def test_joined(self):
         rows = [("./b", "file:///x/b"), ("../b.ts?q#f", "file:///b.ts?q#f"), ("/c/./d", "file:///c/d"), ("./é", "file:///x/%C3%A9"), ("../../..", "file:///")]
         for reference, url in rows:
             self.assertEqual(urls.joined("file:///x/a.ts", reference), url)
+
+    def test_joined_without_a_parse(self):
+        some = random.Random(1)
+        parts = ("a", "b", ".", "..", "/", "./", "../", "c.ts", "@x", "-", "..a", "//")
+        for _ in range(20_000):
+            reference = "".join(some.choice(parts) for _ in range(some.randint(1, 7)))
+            base = "file:///" + "".join(some.choice(("a/", "b/", "x.ts", "_", "d/")) for _ in range(some.randint(0, 5)))
+            self.assertEqual(self.or_none(urls.joined, base, reference), self.or_none(urls.joined_by_the_rules, base, reference), (base, reference))
+
+    @staticmethod
+    def or_none(act, *asked):
+        try:
+            return act(*asked)
+        except urls.NoUrl:
+            return None
+
+    def test_the_text_of_a_bundle(self):
+        value, modules = {"roots": ["a"], "importMap": {"base": "file:///", "map": {"imports": {}}}}, [{"specifier": "a", "text": "é\n\"x\x00"}, {"specifier": "b", "external": True}]
+        for rows in (modules, []):
+            self.assertEqual(packing.text_of(value, rows), json.dumps({**value, "modules": rows}, indent=1, ensure_ascii=False) + "\n")
 
     def test_lines(self):
         source = bundles.Source("\ufeffaé\r\nb\n\nc".encode())
