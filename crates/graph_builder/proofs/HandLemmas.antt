@@ -1,5 +1,5 @@
 -- A builder with answers in hand: they are taken, and get their entries.
-use Rattle.std.proofs.Common.{◌≡◌, ◌⊎◌, inl, inr, ◌≤◌, ◌<◌, ◌-◌, ℕ, zero, suc, ◌+◌, Bool, true, false, List, [], ◌∷◌, ◌++◌, length, map, take, drop, refl, sym, ◌∙◌, ap, subst, arith, Option, Some, None, Result, Ok, Err, append-nil, append_assoc, length-append}
+use Rattle.std.proofs.Common.{◌≡◌, ◌⊎◌, inl, inr, ◌≤◌, ◌<◌, ◌-◌, ℕ, zero, suc, ◌+◌, Bool, true, false, List, [], ◌∷◌, ◌++◌, length, map, take, drop, get_or, refl, sym, ◌∙◌, ap, subst, arith, Option, Some, None, Result, Ok, Err, append-nil, append_assoc, length-append}
 use Rattle.std.specs.Prelude.{bytes_eq, ◌||◌, is_some, IsSome}
 use Rattle.std.specs.List.{IsDistinct, AllByRecursion, AllZip}
 use Rattle.std.specs.Map.{keys_of}
@@ -52,6 +52,24 @@ zip_halves R (suc n) [] [] zs h g = g
 zip_halves R (suc n) [] (y ∷ ys) zs h g = absurd h
 zip_halves R (suc n) (x ∷ xs) [] zs h g = absurd h
 zip_halves R (suc n) (x ∷ xs) (y ∷ ys) zs h g = (h.0, zip_halves R n xs ys zs h.1 g)
+
+-- one more of a list by its places
+zip_take : {A B : Type 0} (R : A → B → Type 0) (xs : List A) (ys : List B) (i : ℕ) (x : A) (y : B)
+    → AllZip R (take i xs) ys → i < length xs → x ≡ get_or xs i x → R x y
+    → AllZip R (take (suc i) xs) (ys ++ y ∷ [])
+zip_take R [] ys i x y h within is r = absurd (omega arith)
+zip_take R (z ∷ xs) [] zero x y h within is r = (subst (λ a. R a y) is r, h)
+zip_take R (z ∷ xs) (w ∷ ys) zero x y h within is r = absurd h
+zip_take R (z ∷ xs) [] (suc i) x y h within is r = absurd h
+zip_take R (z ∷ xs) (w ∷ ys) (suc i) x y h within is r =
+    (h.0, zip_take R xs ys i x y h.1 (omega arith) is r)
+
+pub zip_more : {A B : Type 0} (R : A → B → Type 0) (xs : List A) (ys : List B) (i : ℕ) (x : A) (y : B)
+    → AllZip R (take i xs) ys → i < length xs → x ≡ get_or xs i x → R x y
+    → AllZip R (take (i + 1) xs) (ys ++ y ∷ [])
+zip_more R xs ys i x y h within is r =
+    let on : suc i ≡ i + 1 = omega arith in
+    subst (λ (n : ℕ). AllZip R (take n xs) (ys ++ y ∷ [])) on (zip_take R xs ys i x y h within is r)
 
 -- ---- the answers in hand
 

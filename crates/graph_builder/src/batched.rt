@@ -1,5 +1,6 @@
-//! Batches: answers are taken in hand, analysed by halves in threads of their own, and become entries in their order.
-ghost use Rattle.std.specs.Prelude.{◌≡◌, ◌≤◌, ◌<◌, true, [], length, IfOk};
+//! Batches: answers are taken in hand, analysed by halves in threads of their own, and become entries in their order. Where
+//! a thread finds no memory, the caller analyses them alone.
+ghost use Rattle.std.specs.Prelude.{◌≡◌, ◌≤◌, ◌<◌, true, [], length, IfOk, IfSome};
 ghost use Rattle.std.specs.Thread.{IsSync};
 ghost use Rattle.graph_builder.specs.Rules.{rules_by};
 ghost use Rattle.graph_builder.specs.Graph.{texts};
@@ -18,8 +19,11 @@ use std::alloc::{AllocError, Global};
 use std::thread::{Threads, join};
 use url::Url;
 
-/// So often a batch is halved: four parts, since a join costs some 30 microseconds.
+/// So often a batch is halved: four parts.
 const HALVINGS: u32 = 2;
+
+/// So many bytes a half has at least. A thread costs up to 230 microseconds, and this text some 2,500.
+const LEAST_HALF: u64 = 131_072;
 
 /// Answers in hand, and whether the loader had nothing to give after them.
 #[derive(Drop)]
@@ -110,7 +114,7 @@ impl Progress {
             Ok(taken) => taken,
             Err(error) => return Err(error),
         };
-        match analyse_by_halves(rt, alloc, ways, HALVINGS, answers) {
+        match analyse_all(rt, alloc, ways, answers) {
             Ok(made) => self.enter(alloc, ways, loader, made, waits),
             Err(_) => Err(BuildError::OutOfMemory),
         }
@@ -223,6 +227,25 @@ impl Progress {
     }
 }
 
+// The entries of answers, in their order: by halves, and where a half finds no memory by the caller alone.
+fn analyse_all<R: Threads + Sync, W: Ways + Sync>(
+    rt: &R,
+    alloc: Global,
+    ways: &W,
+    answers: Vec<(Url, LoadAnswer)>,
+) -> Result<Vec<(Url, Entry)>, AllocError>
+    ensures { IfOk result (λ made. AreMeant (W.means ways.now) answers.items made.items) }
+{
+    if middle(answers.as_slice()).is_some() {
+        match analyse_by_halves(rt, alloc, ways, HALVINGS, answers.as_slice()) {
+            Ok(made) => return Ok(made),
+            // The threads have ended, and what they held is free again.
+            Err(_) => {}
+        }
+    }
+    analyse_in_turn(alloc, ways, answers)
+}
+
 /// The entries of answers, in their order, one after another.
 #[tactic(auto, using(std::proofs::lemmas::Slice::Zip::all_zipped_more))]
 pub fn analyse_in_turn<W: Ways>(
@@ -240,33 +263,51 @@ pub fn analyse_in_turn<W: Ways>(
     Ok(made)
 }
 
-/// The same, where each half of so many halvings has a thread of its own. A half is one by its bytes, since that is what an
-/// analysis takes.
+// The same of answers that stay: their bytes are shared.
+#[tactic(auto, using(std::proofs::lemmas::Slice::Zip::all_zipped_more))]
+fn analyse_shared<W: Ways>(
+    alloc: Global,
+    ways: &W,
+    answers: &[(Url, LoadAnswer)],
+) -> Result<Vec<(Url, Entry)>, AllocError>
+    ensures { IfOk result (λ made. AreMeant (W.means ways.now) answers.now made.items) }
+{
+    let mut made = Vec::with_capacity(alloc, answers.len())?;
+    for (url, answer) in answers {
+        let entry = ways.analyse(alloc, url, answer.copy()?)?;
+        made.push((url.clone()?, entry))?;
+    }
+    Ok(made)
+}
+
+/// The same, where each half of so many halvings has a thread of its own.
 #[tactic(auto, using(crate::proofs::HandLemmas::zip_halves))]
 pub fn analyse_by_halves<R: Threads + Sync, W: Ways + Sync>(
     rt: &R,
     alloc: Global,
     ways: &W,
     halvings: u32,
-    mut answers: Vec<(Url, LoadAnswer)>,
+    answers: &[(Url, LoadAnswer)],
 ) -> Result<Vec<(Url, Entry)>, AllocError>
-    ensures { IfOk result (λ made. AreMeant (W.means ways.now) answers.items made.items) }
+    ensures { IfOk result (λ made. AreMeant (W.means ways.now) answers.now made.items) }
 {
-    if halvings == 0 || answers.len() < 2 {
-        return analyse_in_turn(alloc, ways, answers);
+    if halvings == 0 {
+        return analyse_shared(alloc, ways, answers);
     }
-    let last = answers.len() - 1;
-    let rest = answers.split_off(first_half(answers.as_slice()).min(last))?;
+    let Some(middle) = middle(answers) else {
+        return analyse_shared(alloc, ways, answers);
+    };
+    let (front, rest) = answers.split_at(middle);
     let fewer = halvings - 1;
     let (first, second) = join(
         rt,
         move || -> Result<Vec<(Url, Entry)>, AllocError>
             requires { IsSync R.row × IsSync W.row }
-            ensures { IfOk result (λ made. AreMeant (W.means ways.entry.now) answers.items made.items) }
-        { analyse_by_halves(rt, alloc, ways, fewer, answers) },
+            ensures { IfOk result (λ made. AreMeant (W.means ways.entry.now) front.entry.now made.items) }
+        { analyse_by_halves(rt, alloc, ways, fewer, front) },
         move || -> Result<Vec<(Url, Entry)>, AllocError>
             requires { IsSync R.row × IsSync W.row }
-            ensures { IfOk result (λ made. AreMeant (W.means ways.entry.now) rest.items made.items) }
+            ensures { IfOk result (λ made. AreMeant (W.means ways.entry.now) rest.entry.now made.items) }
         { analyse_by_halves(rt, alloc, ways, fewer, rest) },
     );
     let mut made = first?;
@@ -275,17 +316,29 @@ pub fn analyse_by_halves<R: Threads + Sync, W: Ways + Sync>(
     Ok(made)
 }
 
-// How many answers of the front have half of all bytes. Only speed hangs on it.
-fn first_half(answers: &[(Url, LoadAnswer)]) -> usize
+// Where answers are halved by their bytes, since these are what an analysis takes: the place that is nearest to the
+// middle, if both halves have enough. Only speed hangs on it.
+fn middle(answers: &[(Url, LoadAnswer)]) -> Option<usize>
+    ensures { IfSome result (λ n. n ≤ length answers.now) }
+{
+    let place = nearest(answers, bytes_of(answers) / 2);
+    let enough = bytes_of(&answers[..place]) >= LEAST_HALF
+        && bytes_of(&answers[place..]) >= LEAST_HALF;
+    if enough { Some(place) } else { None }
+}
+
+// How many answers of the front have so many bytes, or as near to it as can be.
+fn nearest(answers: &[(Url, LoadAnswer)], sought: u64) -> usize
     ensures { result ≤ length answers.now }
 {
-    let half = bytes_of(answers) / 2;
     let mut bytes: u64 = 0;
     for (place, (_, answer)) in answers.iter().enumerate() {
-        bytes = bytes.saturating_add(size_of(answer));
-        if bytes >= half {
-            return place + 1;
+        let more = bytes.saturating_add(size_of(answer));
+        if more >= sought {
+            let is_nearer = more.abs_diff(sought) <= bytes.abs_diff(sought);
+            return if is_nearer { place + 1 } else { place };
         }
+        bytes = more;
     }
     answers.len()
 }
