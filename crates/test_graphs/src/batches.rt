@@ -1,4 +1,5 @@
-//! Two analyses of one batch run at the same time: each waits, for so many turns, until the other has begun.
+//! Two analyses of one batch run at the same time: each waits, for so many turns, until the other has begun. And a batch
+//! whose threads run out of memory is analysed again.
 ghost use Rattle.std.specs.Prelude.{◌≡◌, ◌<◌, []};
 
 use base::{Items, SharedBytes};
@@ -53,13 +54,51 @@ impl ModuleAnalyzer for Gated {
     ghost once = { λ _ s media text a b is so. is ∙ sym so };
 }
 
+/// Finds no sites, and runs out of memory so many times before.
+#[derive(Drop)]
+struct Refused {
+    times: u64,
+    begun: AtomicU64,
+}
+
+impl ModuleAnalyzer for Refused {
+    ghost use Rattle.std.specs.Prelude.{Ok};
+    ghost use Rattle.std.proofs.Common.{◌∙◌, sym};
+
+    ghost reads = { λ _ s media text sites. sites ≡ Ok [] };
+
+    fn analyze(
+        &self,
+        alloc: Global,
+        specifier: &Url,
+        text: &SourceText,
+        media_type: MediaType,
+    ) -> Result<ModuleInfo, AnalyzeFault> {
+        let _ = specifier;
+        let _ = text;
+        let _ = media_type;
+        if self.begun.fetch_add(1, Ordering::SeqCst) < self.times {
+            return Err(AnalyzeFault::OutOfMemory);
+        }
+        Ok(ModuleInfo {
+            sites: Items::new(alloc),
+        })
+    }
+
+    ghost once = { λ _ s media text a b is so. is ∙ sym so };
+}
+
 const NAMES: &[&str] = &["file:///a.ts", "file:///b.ts"];
 
-// A builder of the graph of two modules, which both are roots.
-fn two_modules(
+/// As many bytes as a half of a batch has at least.
+const HALF: usize = 131_072;
+
+// A builder of the graph of two modules, which both are roots, by an analyzer.
+fn two_modules<A: ModuleAnalyzer + Drop>(
     rt: &impl Abort,
     alloc: Global,
-) -> CustomBuild<MemoryLoader, DefaultResolver, Gated> {
+    analyzer: A,
+) -> CustomBuild<MemoryLoader, DefaultResolver, A> {
     let mut roots = Items::new(alloc);
     let mut modules = Items::new(alloc);
     for name in NAMES {
@@ -67,9 +106,10 @@ fn two_modules(
         roots
             .push(url.clone().expect(rt, "memory"))
             .expect(rt, "memory");
+        let text = vec![in alloc; b' '; HALF].expect(rt, "memory");
         let answer = LoadAnswer::Content {
             headers: Headers::new(alloc),
-            bytes: SharedBytes::from_slice(alloc, b"").expect(rt, "memory"),
+            bytes: SharedBytes::from_vec(text).expect(rt, "memory"),
         };
         modules.push((url, answer)).expect(rt, "memory");
     }
@@ -83,22 +123,38 @@ fn two_modules(
     let Ok(build) = GraphBuild::new(alloc, roots, options, loader) else {
         panic!(rt; "memory");
     };
-    let gate = Gated {
+    build.with_analyzer(analyzer).expect(rt, "memory")
+}
+
+fn gate() -> Gated {
+    Gated {
         begun: AtomicU64::new(0),
-    };
-    build.with_analyzer(gate).expect(rt, "memory")
+    }
 }
 
 #[test]
 fn both_halves_run_at_once(rt: HostRuntime) {
-    let mut build = two_modules(&rt, rt.alloc());
+    let mut build = two_modules(&rt, rt.alloc(), gate());
     let graph = build.poll_batched(&rt, 2);
     assert!(rt; graph.is_ok());
 }
 
 #[test]
+fn batch_is_analysed_again_where_threads_run_out_of_memory(rt: HostRuntime) {
+    // Each half once in its thread, and the first of the batch once more.
+    for (times, is_built) in [(1, true), (2, true), (3, false)] {
+        let refused = Refused {
+            times,
+            begun: AtomicU64::new(0),
+        };
+        let mut build = two_modules(&rt, rt.alloc(), refused);
+        assert_eq!(rt; build.poll_batched(&rt, 2).is_ok(), is_built, "{times}");
+    }
+}
+
+#[test]
 fn one_after_another_does_not(rt: HostRuntime) {
-    let mut build = two_modules(&rt, rt.alloc());
+    let mut build = two_modules(&rt, rt.alloc(), gate());
     let graph = build.poll();
     assert!(rt; matches!(graph, Err(BuildError::OutOfMemory)));
 }
