@@ -9,9 +9,10 @@ use Rattle.es_grammar.specs.declared.rows.NodeKind.{NodeKind}
 use Rattle.es_grammar.specs.declared.rows.NodeKind.TheVariants as l
 use Rattle.es_lowering.specs.Texts.{ident_of}
 use Rattle.es_scopes.specs.declared.steps.Place.TheVariants as vPlace
-use Rattle.es_scopes.specs.Part.{Part, token, node, has_second, packed, found}
+use Rattle.es_walk.specs.Part.{token, node, packed}
+use Rattle.es_walk.specs.Walk.{found, own}
 use Rattle.es_scopes.specs.Plan.{plan}
-use Rattle.es_scopes.specs.Marks.{own}
+use Rattle.es_scopes.specs.Marks.{Parts, turn_plan, operand_plan, scopes}
 use Rattle.es_scopes.specs.Numbers.{ids_in}
 
 -- ---- tokens and trees, written short
@@ -27,16 +28,20 @@ spaced start (it ∷ others) =
 
 -- a tree, by what it is over the tokens
 abbrev Shape : Type 0
-Shape = List Token → Part
+Shape = List Token → Parts
 
-abbrev each : List Shape → List Token → Part
+abbrev each : List Shape → List Token → Parts
 each shapes ts = packed (map (λ shape. shape ts) shapes)
 
 abbrev leaf : ℕ → Shape
 leaf at = λ ts. token at
 
+-- a node over these parts
+abbrev made : List Token → NodeKind → Parts → Parts
+made ts label p = node label p (own (scopes ts) label p)
+
 abbrev branch : NodeKind → List Shape → Shape
-branch label parts = λ ts. node (own ts label (each parts ts))
+branch label parts = λ ts. made ts label (each parts ts)
 
 abbrev group : List Shape → Shape
 group parts = each parts
@@ -111,7 +116,7 @@ functions :
     ((k.Name, 1) ∷ (k.Arrow, 2) ∷ (k.Name, 1) ∷ (k.Semicolon, 1) ∷ (k.Name, 1) ∷ [])
     (script (expr (branch l.NameArrow (leaf 0 ∷ group (name 2 ∷ []) ∷ [])) ∷ expr (name 4) ∷ []))
     ≡ (0, 2) ∷ (2, 2) ∷ (4, 0) ∷ [])
-unfolding numbers ids_in own plan has_second ident_of
+unfolding numbers ids_in own plan turn_plan operand_plan ident_of
 functions = (refl, refl, refl, refl)
 
 blocks :
@@ -156,7 +161,7 @@ blocks :
     (script (branch l.SwitchStatement
     (name 2 ∷ group (group (group (name 6 ∷ []) ∷ list (variable 8 (pat 9) ∷ []) ∷ []) ∷ []) ∷ []) ∷ []))
     ≡ (2, 0) ∷ (6, 2) ∷ (9, 2) ∷ [])
-unfolding numbers ids_in own plan has_second ident_of
+unfolding numbers ids_in own plan turn_plan operand_plan ident_of
 blocks = (refl, refl, refl, refl, refl, refl)
 
 names :
@@ -209,7 +214,7 @@ names :
     ∷ branch l.TypeArguments (branch l.EntityOfType (leaf 8 ∷ group [] ∷ []) ∷ group [] ∷ []) ∷ [])
     ∷ branch l.EntityOfType (leaf 11 ∷ group [] ∷ []) ∷ group [] ∷ []) ∷ group [] ∷ []) ∷ []))
     ≡ (1, 1) ∷ (6, 0) ∷ (8, 0) ∷ (11, 1) ∷ [])
-unfolding numbers ids_in own plan has_second ident_of
+unfolding numbers ids_in own plan turn_plan operand_plan ident_of
 names = (refl, refl, refl, refl)
 
 classes :
@@ -233,5 +238,5 @@ classes :
     (leaf 0 ∷ branch l.Entity (leaf 1 ∷ list (leaf 3 ∷ []) ∷ []) ∷ list (variable 5 (pat 6) ∷ []) ∷ [])
     ∷ expr (branch l.Chain (name 9 ∷ branch l.MemberPost (leaf 11 ∷ []) ∷ group [] ∷ [])) ∷ []))
     ≡ (1, 1) ∷ (6, 2) ∷ (9, 1) ∷ [])
-unfolding numbers ids_in own plan has_second ident_of
+unfolding numbers ids_in own plan turn_plan operand_plan ident_of
 classes = (refl, refl)

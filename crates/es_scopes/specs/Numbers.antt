@@ -7,8 +7,7 @@ use Rattle.es_grammar.specs.declared.cst.tree.Cst.{Cst}
 use Rattle.es_scopes.specs.declared.steps.Place.{Place}
 use Rattle.es_scopes.specs.declared.steps.Place.TheVariants as vPlace
 use Rattle.es_scopes.specs.declared.steps.Mark.TheVariants as mark
-use Rattle.es_scopes.specs.Part.{Marks}
-use Rattle.es_scopes.specs.Marks.{marks}
+use Rattle.es_scopes.specs.Marks.{Marks, marks}
 
 -- a scope: its number, and whether `var` declares in it
 pub record Scope : Type 0 where

@@ -1,223 +1,189 @@
 -- Where names and scopes stand among the parts of the nodes of each alternative, in the order of the text: a line for
--- each alternative that has any (ECMA-262, "Static Semantics: Scope Analysis"; of TypeScript, its handbook). The scope
--- of a function begins behind its name or key; that of a name of its own is around it.
+-- each alternative that declares, opens a scope or passes a part over; any other uses what stands in it (ECMA-262, "Static
+-- Semantics: Scope Analysis"; of TypeScript, its handbook). The scope of a function begins after its name or key; that of
+-- a name of its own is around it.
 use Rattle.std.specs.Prelude.{true, false, List, [], ◌∷◌}
 use Rattle.es_grammar.specs.declared.rows.NodeKind.{NodeKind}
 use Rattle.es_grammar.specs.declared.rows.NodeKind.TheVariants as l
-use Rattle.es_scopes.specs.declared.steps.Way.TheVariants.{Same, Uses, Binds, Body, Word}
+use Rattle.es_walk.specs.declared.step.Path.TheVariants as path
+use Rattle.es_walk.specs.declared.step.Step.{Step}
+use Rattle.es_walk.specs.declared.step.Step.TheVariants.{Act as Do, Rest, At, All, Turns}
 use Rattle.es_scopes.specs.declared.steps.When.TheVariants.{Always, Apart, Caught, Braced, Named}
+use Rattle.es_scopes.specs.declared.steps.Way.{Way}
+use Rattle.es_scopes.specs.declared.steps.Way.TheVariants.{Same, Uses, Binds, Body, Word, Exported}
+use Rattle.es_scopes.specs.declared.steps.Act.{Act}
+use Rattle.es_scopes.specs.declared.steps.Act.TheVariants as act
+use Rattle.es_scopes.specs.declared.steps.Turn.{Turn}
 use Rattle.es_scopes.specs.declared.steps.Turn.TheVariants as turn
-use Rattle.es_scopes.specs.declared.steps.Step.{Step}
-use Rattle.es_scopes.specs.declared.steps.Step.TheVariants.{Open, Close, Name, NameIn, Own, At, In, Deep, Deeper, Turns, TurnsIn, Exported}
 
-unfoldable pub plan : NodeKind → List Step
+unfoldable pub plan : NodeKind → List (Step Way Act Turn)
 -- ---- programs and their items
-plan l.Module = Open Always true ∷ Turns 1 (turn.At Binds 0) ∷ Close Always ∷ []
-plan l.Script = Open Always true ∷ Turns 1 (turn.At Binds 0) ∷ Close Always ∷ []
-plan l.FromImport = At Uses 1 ∷ []
-plan l.SourceImport = Name Binds 0 ∷ []
-plan l.DeferImport = Name Binds 0 ∷ []
-plan l.DefaultClause = Name Binds 0 ∷ []
-plan l.DefaultAndClause = Name Binds 0 ∷ At Uses 1 ∷ []
-plan l.Namespace = Name Binds 0 ∷ []
-plan l.NamedImports = Turns 0 (turn.At Uses 0) ∷ []
-plan l.RenamedImport = Name Binds 2 ∷ []
-plan l.ImportedName = Name Binds 1 ∷ []
-plan l.RequireImport = Name Binds 1 ∷ []
-plan l.ExportedRequireImport = Name Binds 1 ∷ []
-plan l.EntityImport = Name Binds 1 ∷ At Uses 2 ∷ []
-plan l.ExportedEntityImport = Name Binds 1 ∷ At Uses 2 ∷ []
-plan l.ExportNames = Exported ∷ []
-plan l.ExportedName = NameIn Uses 1 0 ∷ []
-plan l.ExportDeclaration = At Binds 0 ∷ []
-plan l.ExportDefaultFunction = At Binds 0 ∷ []
-plan l.ExportDefaultClass = At Binds 0 ∷ []
-plan l.ExportDefaultInterface = At Binds 0 ∷ []
-plan l.ExportDefaultExpression = At Uses 0 ∷ []
-plan l.ExportAssignment = At Uses 0 ∷ []
+plan l.Module = Do (act.Open Always true) ∷ Rest Binds ∷ Do (act.Close Always) ∷ []
+plan l.Script = Do (act.Open Always true) ∷ Rest Binds ∷ Do (act.Close Always) ∷ []
+plan l.SourceImport = Do (act.Name Binds 0) ∷ []
+plan l.DeferImport = Do (act.Name Binds 0) ∷ []
+plan l.DefaultClause = Do (act.Name Binds 0) ∷ []
+plan l.Namespace = Do (act.Name Binds 0) ∷ []
+plan l.DefaultAndClause = Do (act.Name Binds 0) ∷ Rest Uses ∷ []
+plan l.RenamedImport = Do (act.Name Binds 2) ∷ []
+plan l.ImportedName = Do (act.Name Binds 1) ∷ []
+plan l.RequireImport = Do (act.Name Binds 1) ∷ []
+plan l.ExportedRequireImport = Do (act.Name Binds 1) ∷ []
+plan l.EntityImport = Do (act.Name Binds 1) ∷ Rest Uses ∷ []
+plan l.ExportedEntityImport = Do (act.Name Binds 1) ∷ Rest Uses ∷ []
+plan l.ExportNames = All Exported (path.At 1) ∷ []
+plan l.ExportedName = Do (act.NameIn Uses 1 0) ∷ []
+plan l.ExportDeclaration = Rest Binds ∷ []
+plan l.ExportDefaultFunction = Rest Binds ∷ []
+plan l.ExportDefaultClass = Rest Binds ∷ []
+plan l.ExportDefaultInterface = Rest Binds ∷ []
 -- ---- statements
-plan l.Block = Open Apart false ∷ Turns 0 (turn.At Binds 0) ∷ Close Apart ∷ []
-plan l.ExpressionStatement = At Uses 0 ∷ []
-plan l.LabelledStatement = At Binds 1 ∷ []
-plan l.IfStatement = At Uses 0 ∷ At Binds 1 ∷ In Binds 2 0 ∷ []
+plan l.Block = Do (act.Open Apart false) ∷ Rest Binds ∷ Do (act.Close Apart) ∷ []
+plan l.LabelledStatement = Rest Binds ∷ []
+plan l.IfStatement = At Uses (path.At 0) ∷ At Binds (path.At 1) ∷ All Binds (path.At 2) ∷ []
 plan l.ForStatement =
-    Open Always false ∷ In Binds 0 0 ∷ In Binds 1 0 ∷ In Uses 2 0 ∷ In Uses 3 0 ∷ In Uses 4 0 ∷ At Binds 5
-    ∷ Close Always ∷ []
-plan l.ForEachStatement = Open Always false ∷ At Uses 0 ∷ In Uses 1 1 ∷ At Binds 2 ∷ Close Always ∷ []
-plan l.ForAwaitStatement = Open Always false ∷ At Uses 0 ∷ At Uses 1 ∷ At Binds 2 ∷ Close Always ∷ []
-plan l.WhileStatement = At Uses 0 ∷ At Binds 1 ∷ []
-plan l.DoStatement = At Binds 0 ∷ At Uses 1 ∷ []
-plan l.WithStatement = At Uses 0 ∷ At Binds 1 ∷ []
-plan l.ReturnStatement = In Uses 0 0 ∷ []
-plan l.ThrowStatement = At Uses 0 ∷ []
-plan l.SwitchStatement = At Uses 0 ∷ Open Always false ∷ Turns 1 turn.Case ∷ Close Always ∷ []
--- behind the block of a `try` stands that of `finally` alone, or a parameter, a block and what may follow
+    Do (act.Open Always false) ∷ All Binds (path.At 0) ∷ All Binds (path.At 1) ∷ All Uses (path.At 2)
+    ∷ All Uses (path.At 3) ∷ All Uses (path.At 4) ∷ At Binds (path.At 5) ∷ Do (act.Close Always) ∷ []
+plan l.ForEachStatement =
+    Do (act.Open Always false) ∷ At Uses (path.At 0) ∷ All Uses (path.At 1) ∷ At Binds (path.At 2)
+    ∷ Do (act.Close Always) ∷ []
+plan l.ForAwaitStatement =
+    Do (act.Open Always false) ∷ At Uses (path.At 0) ∷ At Uses (path.At 1) ∷ At Binds (path.At 2)
+    ∷ Do (act.Close Always) ∷ []
+plan l.WhileStatement = At Uses (path.At 0) ∷ At Binds (path.At 1) ∷ []
+plan l.WithStatement = At Uses (path.At 0) ∷ At Binds (path.At 1) ∷ []
+plan l.DoStatement = At Binds (path.At 0) ∷ At Uses (path.At 1) ∷ []
+plan l.SwitchStatement =
+    At Uses (path.At 0) ∷ Do (act.Open Always false) ∷ Turns Uses (path.At 1) turn.Case ∷ Do (act.Close Always) ∷ []
+-- after the block of a `try` stands that of `finally` alone, or a parameter, a block and what may follow
 plan l.TryStatement =
-    At Binds 0 ∷ In Binds 1 0 ∷ Open Caught false ∷ Deep Binds 1 0 0 ∷ In Binds 1 1 ∷ Close Caught ∷ Deep Binds 1 2 0
-    ∷ []
+    At Binds (path.At 0) ∷ At Binds (path.In 1 0) ∷ Do (act.Open Caught false) ∷ At Binds (path.Deep 1 0 0)
+    ∷ At Binds (path.In 1 1) ∷ Do (act.Close Caught) ∷ At Binds (path.Deep 1 2 0) ∷ []
 plan l.TypedTryStatement =
-    At Binds 0 ∷ In Binds 1 0 ∷ Open Caught false ∷ Deep Binds 1 0 0 ∷ Deeper Uses 1 0 1 0 ∷ In Binds 1 1
-    ∷ Close Caught ∷ Deep Binds 1 2 0 ∷ []
+    At Binds (path.At 0) ∷ At Binds (path.In 1 0) ∷ Do (act.Open Caught false) ∷ At Binds (path.Deep 1 0 0)
+    ∷ At Uses (path.Deeper 1 0 1 0) ∷ At Binds (path.In 1 1) ∷ Do (act.Close Caught) ∷ At Binds (path.Deep 1 2 0) ∷ []
 -- ---- variables
-plan l.VariableDeclaration = At Binds 0 ∷ []
-plan l.UsingDeclaration = At Binds 0 ∷ []
-plan l.Variables = At Word 1 ∷ Turns 2 (turn.At Word 0) ∷ []
-plan l.Using = At Binds 1 ∷ Turns 2 (turn.At Binds 0) ∷ []
-plan l.Declarator = At Same 0 ∷ At Uses 1 ∷ []
-plan l.TypedDeclarator = At Same 0 ∷ In Uses 2 0 ∷ In Uses 3 0 ∷ []
-plan l.VariableHead = At Word 1 ∷ []
-plan l.TypedVariableHead = At Word 1 ∷ In Uses 2 0 ∷ []
-plan l.UsingHead = Name Binds 1 ∷ []
+plan l.VariableDeclaration = Rest Binds ∷ []
+plan l.UsingDeclaration = Rest Binds ∷ []
+plan l.Using = Rest Binds ∷ []
+plan l.Variables = Rest Word ∷ []
+plan l.Declarator = At Same (path.At 0) ∷ At Uses (path.At 1) ∷ []
+plan l.TypedDeclarator = At Same (path.At 0) ∷ All Uses (path.At 2) ∷ All Uses (path.At 3) ∷ []
+plan l.VariableHead = Rest Word ∷ []
+plan l.TypedVariableHead = At Word (path.At 1) ∷ All Uses (path.At 2) ∷ []
+plan l.UsingHead = Do (act.Name Binds 1) ∷ []
 -- ---- patterns and parameters
-plan l.NamePattern = Name Same 0 ∷ []
-plan l.ArrayPattern = Turns 0 (turn.Hole Same) ∷ []
-plan l.ObjectPattern = Turns 0 (turn.At Same 0) ∷ []
-plan l.RestPattern = At Same 0 ∷ []
-plan l.DefaultPattern = At Same 0 ∷ At Uses 1 ∷ []
-plan l.RestProperty = At Same 0 ∷ []
-plan l.KeyPattern = At Uses 0 ∷ At Same 1 ∷ In Uses 2 0 ∷ []
-plan l.NameProperty = Name Same 0 ∷ In Uses 1 0 ∷ []
-plan l.Parameters = Turns 0 (turn.At Binds 0) ∷ In Binds 1 0 ∷ []
-plan l.TypedParameters = Turns 0 (turn.At Binds 0) ∷ In Binds 1 0 ∷ Deep Uses 1 1 0 ∷ []
-plan l.DefaultParameter = At Same 0 ∷ At Uses 1 ∷ []
-plan l.MarkedParameter = At Same 0 ∷ In Uses 2 0 ∷ In Uses 3 0 ∷ []
-plan l.PropertyParameter = At Same 1 ∷ In Uses 3 0 ∷ In Uses 4 0 ∷ []
-plan l.ThisParameter = In Uses 2 0 ∷ In Uses 3 0 ∷ []
-plan l.Signature = At Uses 0 ∷ []
-plan l.TypedSignature = In Uses 0 0 ∷ At Uses 1 ∷ In Uses 2 0 ∷ []
+plan l.NamePattern = Do (act.Name Same 0) ∷ []
+plan l.ArrayPattern = Rest Same ∷ []
+plan l.ObjectPattern = Rest Same ∷ []
+plan l.RestPattern = Rest Same ∷ []
+plan l.RestProperty = Rest Same ∷ []
+plan l.DefaultPattern = At Same (path.At 0) ∷ At Uses (path.At 1) ∷ []
+plan l.DefaultParameter = At Same (path.At 0) ∷ At Uses (path.At 1) ∷ []
+plan l.KeyPattern = At Uses (path.At 0) ∷ At Same (path.At 1) ∷ All Uses (path.At 2) ∷ []
+plan l.NameProperty = Do (act.Name Same 0) ∷ All Uses (path.At 1) ∷ []
+plan l.Parameters = Rest Binds ∷ []
+plan l.TypedParameters = All Binds (path.At 0) ∷ At Binds (path.In 1 0) ∷ All Uses (path.In 1 1) ∷ []
+plan l.MarkedParameter = At Same (path.At 0) ∷ All Uses (path.At 2) ∷ All Uses (path.At 3) ∷ []
+plan l.PropertyParameter = At Same (path.At 1) ∷ All Uses (path.At 3) ∷ All Uses (path.At 4) ∷ []
 -- ---- functions and arrows
 plan l.Function =
-    Open (Named 1) false ∷ Own 1 ∷ Open Always true ∷ At Uses 2 ∷ At Body 3 ∷ Close Always ∷ Close (Named 1) ∷ []
+    Do (act.Open (Named 1) false) ∷ Do (act.Own 1) ∷ Do (act.Open Always true) ∷ At Uses (path.At 2)
+    ∷ At Body (path.At 3) ∷ Do (act.Close Always) ∷ Do (act.Close (Named 1)) ∷ []
 plan l.AsyncFunction =
-    Open (Named 1) false ∷ Own 1 ∷ Open Always true ∷ At Uses 2 ∷ At Body 3 ∷ Close Always ∷ Close (Named 1) ∷ []
+    Do (act.Open (Named 1) false) ∷ Do (act.Own 1) ∷ Do (act.Open Always true) ∷ At Uses (path.At 2)
+    ∷ At Body (path.At 3) ∷ Do (act.Close Always) ∷ Do (act.Close (Named 1)) ∷ []
 plan l.TypedFunction =
-    Open (Named 1) false ∷ Own 1 ∷ Open Always true ∷ At Uses 2 ∷ In Body 3 0 ∷ Close Always ∷ Close (Named 1) ∷ []
+    Do (act.Open (Named 1) false) ∷ Do (act.Own 1) ∷ Do (act.Open Always true) ∷ At Uses (path.At 2)
+    ∷ All Body (path.At 3) ∷ Do (act.Close Always) ∷ Do (act.Close (Named 1)) ∷ []
 plan l.TypedAsyncFunction =
-    Open (Named 1) false ∷ Own 1 ∷ Open Always true ∷ At Uses 2 ∷ In Body 3 0 ∷ Close Always ∷ Close (Named 1) ∷ []
-plan l.NameArrow = Open Always true ∷ Name Binds 0 ∷ In Body 1 0 ∷ Close Always ∷ []
-plan l.AsyncNameArrow = Open Always true ∷ Name Binds 0 ∷ In Body 1 0 ∷ Close Always ∷ []
-plan l.ParenthesizedArrow = Open Always true ∷ At Uses 0 ∷ In Body 1 0 ∷ Close Always ∷ []
-plan l.AsyncParenthesizedArrow = Open Always true ∷ At Uses 0 ∷ In Body 1 0 ∷ Close Always ∷ []
+    Do (act.Open (Named 1) false) ∷ Do (act.Own 1) ∷ Do (act.Open Always true) ∷ At Uses (path.At 2)
+    ∷ All Body (path.At 3) ∷ Do (act.Close Always) ∷ Do (act.Close (Named 1)) ∷ []
+plan l.NameArrow = Do (act.Open Always true) ∷ Do (act.Name Binds 0) ∷ All Body (path.At 1) ∷ Do (act.Close Always) ∷ []
+plan l.AsyncNameArrow =
+    Do (act.Open Always true) ∷ Do (act.Name Binds 0) ∷ All Body (path.At 1) ∷ Do (act.Close Always) ∷ []
+plan l.ParenthesizedArrow =
+    Do (act.Open Always true) ∷ At Uses (path.At 0) ∷ All Body (path.At 1) ∷ Do (act.Close Always) ∷ []
+plan l.AsyncParenthesizedArrow =
+    Do (act.Open Always true) ∷ At Uses (path.At 0) ∷ All Body (path.At 1) ∷ Do (act.Close Always) ∷ []
 plan l.TypedParenthesizedArrow =
-    Open Always true ∷ In Uses 0 0 ∷ At Uses 1 ∷ In Uses 2 0 ∷ In Body 3 0 ∷ Close Always ∷ []
+    Do (act.Open Always true) ∷ All Uses (path.At 0) ∷ At Uses (path.At 1) ∷ All Uses (path.At 2)
+    ∷ All Body (path.At 3) ∷ Do (act.Close Always) ∷ []
 plan l.TypedAsyncParenthesizedArrow =
-    Open Always true ∷ In Uses 0 0 ∷ At Uses 1 ∷ In Uses 2 0 ∷ In Body 3 0 ∷ Close Always ∷ []
+    Do (act.Open Always true) ∷ All Uses (path.At 0) ∷ At Uses (path.At 1) ∷ All Uses (path.At 2)
+    ∷ All Body (path.At 3) ∷ Do (act.Close Always) ∷ []
 -- ---- classes and their members
-plan l.Class =
-    Open (Named 0) false ∷ Own 0 ∷ In Uses 1 0 ∷ Turns 2 (turn.At Uses 0) ∷ Close (Named 0) ∷ []
-plan l.TypedClass =
-    Open (Named 0) false ∷ Own 0 ∷ In Uses 1 0 ∷ In Uses 2 0 ∷ Deep Uses 2 1 0 ∷ In Uses 3 0
-    ∷ TurnsIn 3 1 (turn.At Uses 0) ∷ Turns 4 (turn.At Uses 0) ∷ Close (Named 0) ∷ []
-plan l.AbstractClass =
-    Open (Named 0) false ∷ Own 0 ∷ In Uses 1 0 ∷ In Uses 2 0 ∷ Deep Uses 2 1 0 ∷ In Uses 3 0
-    ∷ TurnsIn 3 1 (turn.At Uses 0) ∷ Turns 4 (turn.At Uses 0) ∷ Close (Named 0) ∷ []
-plan l.StaticBlock = Open Always true ∷ At Body 0 ∷ Close Always ∷ []
-plan l.MethodMember = At Uses 1 ∷ Open Always true ∷ At Uses 2 ∷ At Body 3 ∷ Close Always ∷ []
-plan l.GeneratorMember = At Uses 1 ∷ Open Always true ∷ At Uses 2 ∷ At Body 3 ∷ Close Always ∷ []
-plan l.AsyncMember = At Uses 2 ∷ Open Always true ∷ At Uses 3 ∷ At Body 4 ∷ Close Always ∷ []
-plan l.AccessorMember = At Uses 2 ∷ Open Always true ∷ At Uses 3 ∷ At Body 4 ∷ Close Always ∷ []
-plan l.TypedMethodMember = In Uses 1 0 ∷ Open Always true ∷ In Uses 1 2 ∷ In Body 2 0 ∷ Close Always ∷ []
-plan l.TypedGeneratorMember = In Uses 1 0 ∷ Open Always true ∷ In Uses 1 2 ∷ In Body 2 0 ∷ Close Always ∷ []
-plan l.TypedAsyncMember = In Uses 2 0 ∷ Open Always true ∷ In Uses 2 2 ∷ In Body 3 0 ∷ Close Always ∷ []
-plan l.TypedAccessorMember = In Uses 2 0 ∷ Open Always true ∷ In Uses 2 2 ∷ In Body 3 0 ∷ Close Always ∷ []
-plan l.FieldMember = At Uses 1 ∷ In Uses 2 0 ∷ []
-plan l.AccessorField = At Uses 1 ∷ In Uses 2 0 ∷ []
-plan l.TypedFieldMember = At Uses 1 ∷ In Uses 3 0 ∷ In Uses 4 0 ∷ []
-plan l.TypedAccessorField = At Uses 1 ∷ In Uses 3 0 ∷ In Uses 4 0 ∷ []
-plan l.IndexMember = At Uses 2 ∷ In Uses 3 0 ∷ []
-plan l.ComputedKey = At Uses 0 ∷ []
+plan l.Class = Do (act.Open (Named 0) false) ∷ Do (act.Own 0) ∷ Rest Uses ∷ Do (act.Close (Named 0)) ∷ []
+plan l.TypedClass = Do (act.Open (Named 0) false) ∷ Do (act.Own 0) ∷ Rest Uses ∷ Do (act.Close (Named 0)) ∷ []
+plan l.AbstractClass = Do (act.Open (Named 0) false) ∷ Do (act.Own 0) ∷ Rest Uses ∷ Do (act.Close (Named 0)) ∷ []
+plan l.StaticBlock = Do (act.Open Always true) ∷ Rest Body ∷ Do (act.Close Always) ∷ []
+plan l.MethodMember =
+    At Uses (path.At 1) ∷ Do (act.Open Always true) ∷ At Uses (path.At 2) ∷ At Body (path.At 3)
+    ∷ Do (act.Close Always) ∷ []
+plan l.GeneratorMember =
+    At Uses (path.At 1) ∷ Do (act.Open Always true) ∷ At Uses (path.At 2) ∷ At Body (path.At 3)
+    ∷ Do (act.Close Always) ∷ []
+plan l.AsyncMember =
+    At Uses (path.At 2) ∷ Do (act.Open Always true) ∷ At Uses (path.At 3) ∷ At Body (path.At 4)
+    ∷ Do (act.Close Always) ∷ []
+plan l.AccessorMember =
+    At Uses (path.At 2) ∷ Do (act.Open Always true) ∷ At Uses (path.At 3) ∷ At Body (path.At 4)
+    ∷ Do (act.Close Always) ∷ []
+plan l.TypedMethodMember =
+    At Uses (path.In 1 0) ∷ Do (act.Open Always true) ∷ At Uses (path.In 1 2) ∷ All Body (path.At 2)
+    ∷ Do (act.Close Always) ∷ []
+plan l.TypedGeneratorMember =
+    At Uses (path.In 1 0) ∷ Do (act.Open Always true) ∷ At Uses (path.In 1 2) ∷ All Body (path.At 2)
+    ∷ Do (act.Close Always) ∷ []
+plan l.TypedAsyncMember =
+    At Uses (path.In 2 0) ∷ Do (act.Open Always true) ∷ At Uses (path.In 2 2) ∷ All Body (path.At 3)
+    ∷ Do (act.Close Always) ∷ []
+plan l.TypedAccessorMember =
+    At Uses (path.In 2 0) ∷ Do (act.Open Always true) ∷ At Uses (path.In 2 2) ∷ All Body (path.At 3)
+    ∷ Do (act.Close Always) ∷ []
 -- ---- properties of objects
-plan l.KeyValue = At Uses 0 ∷ At Uses 1 ∷ []
-plan l.Shorthand = Name Uses 0 ∷ []
-plan l.SpreadProperty = At Uses 0 ∷ []
-plan l.MethodProperty = At Uses 0 ∷ Open Always true ∷ At Uses 1 ∷ At Body 2 ∷ Close Always ∷ []
-plan l.GeneratorProperty = At Uses 0 ∷ Open Always true ∷ At Uses 1 ∷ At Body 2 ∷ Close Always ∷ []
-plan l.AsyncProperty = At Uses 1 ∷ Open Always true ∷ At Uses 2 ∷ At Body 3 ∷ Close Always ∷ []
-plan l.AccessorProperty = At Uses 1 ∷ Open Always true ∷ At Uses 2 ∷ At Body 3 ∷ Close Always ∷ []
-plan l.TypedMethodProperty = In Uses 0 0 ∷ Open Always true ∷ In Uses 0 1 ∷ At Body 1 ∷ Close Always ∷ []
-plan l.TypedGeneratorProperty = In Uses 0 0 ∷ Open Always true ∷ In Uses 0 1 ∷ At Body 1 ∷ Close Always ∷ []
-plan l.TypedAsyncProperty = In Uses 1 0 ∷ Open Always true ∷ In Uses 1 1 ∷ At Body 2 ∷ Close Always ∷ []
-plan l.TypedAccessorProperty = In Uses 1 0 ∷ Open Always true ∷ In Uses 1 1 ∷ At Body 2 ∷ Close Always ∷ []
+plan l.Shorthand = Do (act.Name Uses 0) ∷ []
+plan l.MethodProperty =
+    At Uses (path.At 0) ∷ Do (act.Open Always true) ∷ At Uses (path.At 1) ∷ At Body (path.At 2)
+    ∷ Do (act.Close Always) ∷ []
+plan l.GeneratorProperty =
+    At Uses (path.At 0) ∷ Do (act.Open Always true) ∷ At Uses (path.At 1) ∷ At Body (path.At 2)
+    ∷ Do (act.Close Always) ∷ []
+plan l.AsyncProperty =
+    At Uses (path.At 1) ∷ Do (act.Open Always true) ∷ At Uses (path.At 2) ∷ At Body (path.At 3)
+    ∷ Do (act.Close Always) ∷ []
+plan l.AccessorProperty =
+    At Uses (path.At 1) ∷ Do (act.Open Always true) ∷ At Uses (path.At 2) ∷ At Body (path.At 3)
+    ∷ Do (act.Close Always) ∷ []
+plan l.TypedMethodProperty =
+    At Uses (path.In 0 0) ∷ Do (act.Open Always true) ∷ At Uses (path.In 0 1) ∷ At Body (path.At 1)
+    ∷ Do (act.Close Always) ∷ []
+plan l.TypedGeneratorProperty =
+    At Uses (path.In 0 0) ∷ Do (act.Open Always true) ∷ At Uses (path.In 0 1) ∷ At Body (path.At 1)
+    ∷ Do (act.Close Always) ∷ []
+plan l.TypedAsyncProperty =
+    At Uses (path.In 1 0) ∷ Do (act.Open Always true) ∷ At Uses (path.In 1 1) ∷ At Body (path.At 2)
+    ∷ Do (act.Close Always) ∷ []
+plan l.TypedAccessorProperty =
+    At Uses (path.In 1 0) ∷ Do (act.Open Always true) ∷ At Uses (path.In 1 1) ∷ At Body (path.At 2)
+    ∷ Do (act.Close Always) ∷ []
 -- ---- expressions
-plan l.Name = Name Uses 0 ∷ []
-plan l.TemplateParts = At Uses 1 ∷ Turns 2 (turn.At Uses 1) ∷ []
-plan l.Parenthesized = At Uses 0 ∷ []
-plan l.ArrayLiteral = Turns 0 (turn.Hole Uses) ∷ []
-plan l.ObjectLiteral = Turns 0 (turn.At Uses 0) ∷ []
-plan l.Spread = At Uses 0 ∷ []
-plan l.ImportCall = At Uses 0 ∷ In Uses 1 0 ∷ []
-plan l.SourceCall = At Uses 0 ∷ In Uses 1 0 ∷ []
-plan l.DeferCall = At Uses 0 ∷ In Uses 1 0 ∷ []
-plan l.New = At Uses 0 ∷ In Uses 1 0 ∷ []
-plan l.TypedNew = At Uses 0 ∷ In Uses 1 0 ∷ In Uses 2 0 ∷ []
-plan l.Chain = At Uses 0 ∷ At Uses 1 ∷ Turns 2 (turn.At Uses 0) ∷ []
-plan l.IndexPost = At Uses 0 ∷ []
-plan l.CallPost = At Uses 0 ∷ []
-plan l.TemplatePost = At Uses 0 ∷ []
-plan l.OptionalPost = In Uses 0 0 ∷ Deep Uses 0 0 0 ∷ []
-plan l.TypedCallPost = In Uses 0 0 ∷ At Uses 1 ∷ []
-plan l.TypedTemplatePost = In Uses 0 0 ∷ At Uses 1 ∷ []
-plan l.TypedOptionalPost = In Uses 0 0 ∷ Deeper Uses 0 0 0 0 ∷ Deep Uses 0 0 1 ∷ []
-plan l.Arguments = Turns 0 (turn.At Uses 1) ∷ []
-plan l.UpdatePrefix = At Uses 1 ∷ []
-plan l.UpdatePostfix = At Uses 0 ∷ []
-plan l.UnaryExpression = At Uses 1 ∷ []
-plan l.AwaitExpression = At Uses 0 ∷ []
-plan l.Binary = At Uses 0 ∷ At Uses 2 ∷ []
-plan l.TypedBinary = At Uses 0 ∷ In Uses 1 1 ∷ Deep Uses 1 1 0 ∷ []
-plan l.PrivateIn = At Uses 1 ∷ []
-plan l.Conditional = At Uses 0 ∷ At Uses 1 ∷ At Uses 2 ∷ []
-plan l.Assignment = At Uses 0 ∷ At Uses 2 ∷ []
-plan l.PatternAssignment = At Uses 0 ∷ At Uses 1 ∷ []
-plan l.Yield = In Uses 0 1 ∷ []
-plan l.Sequence = At Uses 0 ∷ At Uses 1 ∷ Turns 2 (turn.At Uses 0) ∷ []
+plan l.Name = Do (act.Name Uses 0) ∷ []
 -- ---- declarations of TypeScript
-plan l.Declared = At Binds 0 ∷ []
-plan l.DeclaredVariables = At Binds 0 ∷ []
-plan l.InterfaceDeclaration =
-    Name Binds 0 ∷ In Uses 1 0 ∷ In Uses 2 0 ∷ TurnsIn 2 1 (turn.At Uses 0) ∷ Turns 3 (turn.At Uses 0) ∷ []
-plan l.AliasDeclaration = Name Binds 0 ∷ In Uses 1 0 ∷ At Uses 2 ∷ []
-plan l.EnumDeclaration = Name Binds 1 ∷ Turns 2 turn.Member ∷ []
-plan l.NamespaceDeclaration = At Binds 1 ∷ Open Always true ∷ Turns 2 (turn.At Binds 0) ∷ Close Always ∷ []
-plan l.ModuleDeclaration = Open Braced true ∷ TurnsIn 1 0 (turn.At Binds 0) ∷ Close Braced ∷ []
-plan l.GlobalDeclaration = Open Always true ∷ Turns 0 (turn.At Binds 0) ∷ Close Always ∷ []
--- ---- types: the first of a name's names, and of what types declare nothing
-plan l.Entity = Name Same 0 ∷ []
-plan l.EntityOfType = Name Same 0 ∷ []
-plan l.Reference = At Uses 0 ∷ At Uses 1 ∷ []
-plan l.ImportType = In Uses 2 0 ∷ []
-plan l.TypeArguments = At Uses 0 ∷ Turns 1 (turn.At Uses 0) ∷ []
-plan l.TypeParameters = In Uses 2 0 ∷ In Uses 3 0 ∷ Turns 5 turn.Bounds ∷ []
-plan l.FunctionType = In Uses 0 0 ∷ At Uses 1 ∷ At Uses 2 ∷ []
-plan l.ConstructorType = In Uses 1 0 ∷ At Uses 2 ∷ At Uses 3 ∷ []
-plan l.ConditionalType = At Uses 0 ∷ At Uses 1 ∷ At Uses 2 ∷ At Uses 3 ∷ []
-plan l.UnionType = At Uses 0 ∷ At Uses 1 ∷ Turns 2 (turn.At Uses 0) ∷ []
-plan l.IntersectionType = At Uses 0 ∷ At Uses 1 ∷ Turns 2 (turn.At Uses 0) ∷ []
-plan l.LeadingUnionType = At Uses 0 ∷ Turns 1 (turn.At Uses 0) ∷ []
-plan l.LeadingIntersectionType = At Uses 0 ∷ Turns 1 (turn.At Uses 0) ∷ []
-plan l.TypeOperator = At Uses 1 ∷ []
-plan l.ArrayTypes = At Uses 0 ∷ In Uses 1 0 ∷ Turns 2 (turn.Hole Uses) ∷ []
-plan l.TemplateTypes = At Uses 1 ∷ Turns 2 (turn.At Uses 1) ∷ []
-plan l.TypeQuery = In Uses 0 0 ∷ []
-plan l.ParenthesizedType = At Uses 0 ∷ []
-plan l.MembersType = Turns 0 (turn.At Uses 0) ∷ []
-plan l.TupleType = Turns 0 (turn.At Uses 0) ∷ []
-plan l.MappedType = At Uses 2 ∷ In Uses 3 0 ∷ In Uses 5 0 ∷ []
-plan l.RestElement = At Uses 1 ∷ []
-plan l.LabelledElement = At Uses 2 ∷ []
-plan l.OptionalElement = At Uses 0 ∷ []
-plan l.CallSignature = In Uses 0 0 ∷ At Uses 1 ∷ In Uses 2 0 ∷ []
-plan l.ConstructSignature = In Uses 0 0 ∷ At Uses 1 ∷ In Uses 2 0 ∷ []
-plan l.IndexSignature = At Uses 2 ∷ In Uses 3 0 ∷ []
-plan l.AccessorSignature = At Uses 1 ∷ In Uses 3 0 ∷ At Uses 4 ∷ In Uses 5 0 ∷ []
-plan l.MethodSignature = At Uses 0 ∷ In Uses 2 0 ∷ At Uses 3 ∷ In Uses 4 0 ∷ []
-plan l.PropertySignature = At Uses 0 ∷ In Uses 2 0 ∷ []
-plan l.ReadonlyProperty = At Uses 0 ∷ In Uses 2 0 ∷ []
-plan l.ComputedKeyOfType = Deep Uses 0 0 0 ∷ []
-plan l.AssertsResult = Name Uses 0 ∷ In Uses 1 0 ∷ []
-plan l.PredicateResult = Name Uses 0 ∷ At Uses 1 ∷ []
-plan l.ParametersOfType = Turns 0 (turn.At Uses 0) ∷ Deep Uses 1 1 0 ∷ []
-plan l.ThisParameterOfType = In Uses 2 0 ∷ []
-plan l.MarkedParameterOfType = In Uses 1 0 ∷ Deep Uses 1 1 0 ∷ []
--- names that aren't looked up, literals and words have none
-plan _ = []
+plan l.Declared = Rest Binds ∷ []
+plan l.DeclaredVariables = Rest Binds ∷ []
+plan l.InterfaceDeclaration = Do (act.Name Binds 0) ∷ Rest Uses ∷ []
+plan l.AliasDeclaration = Do (act.Name Binds 0) ∷ Rest Uses ∷ []
+plan l.EnumDeclaration = Do (act.Name Binds 1) ∷ Rest Uses ∷ []
+plan l.NamespaceDeclaration =
+    At Binds (path.At 1) ∷ Do (act.Open Always true) ∷ All Binds (path.At 2) ∷ Do (act.Close Always) ∷ []
+plan l.ModuleDeclaration = Do (act.Open Braced true) ∷ Rest Binds ∷ Do (act.Close Braced) ∷ []
+plan l.GlobalDeclaration = Do (act.Open Always true) ∷ Rest Binds ∷ Do (act.Close Always) ∷ []
+-- ---- types: the first of a name's names; what stands after `import()` is a name of that module
+plan l.Entity = Do (act.Name Same 0) ∷ []
+plan l.EntityOfType = Do (act.Name Same 0) ∷ []
+plan l.ImportType = All Uses (path.At 2) ∷ []
+plan l.AssertsResult = Do (act.Name Uses 0) ∷ Rest Uses ∷ []
+plan l.PredicateResult = Do (act.Name Uses 0) ∷ Rest Uses ∷ []
+-- all names in any other part are used
+plan _ = Rest Uses ∷ []

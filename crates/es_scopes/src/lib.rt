@@ -3,10 +3,8 @@
 
 mod plan;
 mod program;
-mod rows;
+mod scopes;
 mod steps;
-mod walk;
 
 pub use program::program_marks;
-pub use rows::split_trees;
-pub use steps::{Mark, Place, Step, Turn, Way, When};
+pub use steps::{Act, Mark, Place, Turn, Way, When};

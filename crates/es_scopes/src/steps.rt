@@ -1,4 +1,4 @@
-//! What a walk over a tree meets of names and scopes, and where they stand among the parts of a node.
+//! What a walk over a tree meets of names and scopes, and what it does at a node.
 
 /// How a name that stands at a place is meant.
 #[derive(Clone, Copy)]
@@ -34,6 +34,8 @@ pub enum Way {
     Body,
     /// By the word that is the node's first part: `var`, or another.
     Word,
+    /// Used, but passed over where `from` follows what is exported.
+    Exported,
 }
 
 /// When a scope is opened around the parts of a node.
@@ -44,32 +46,15 @@ pub enum When {
     Apart,
     /// Where a `try` has a `catch`.
     Caught,
-    /// Where `{` stands behind the token that is the first part.
+    /// Where `{` stands after the token that is the first part.
     Braced,
     /// Where an expression has a name of its own at this place.
     Named(usize),
 }
 
-/// What stands in a turn of a list. Parts count from 0.
+/// What is met at a node itself. Parts count from 0.
 #[derive(Clone, Copy)]
-pub enum Turn {
-    /// The part at this place.
-    At(Way, usize),
-    /// What may stand in its first part.
-    Hole(Way),
-    /// A key, and what it may be given.
-    Member,
-    /// A test that may be absent, and statements.
-    Case,
-    /// What may stand behind `extends` and `=` of a parameter of types.
-    Bounds,
-    /// A type behind `as`, or the right operand of a sign.
-    Operand,
-}
-
-/// What stands among the parts of a node. Parts count from 0.
-#[derive(Clone, Copy)]
-pub enum Step {
+pub enum Act {
     Open(When, bool),
     Close(When),
     /// The name that is the part at this place; `this` is none.
@@ -78,18 +63,11 @@ pub enum Step {
     NameIn(Way, usize, usize),
     /// The name of a function or a class, which may be absent.
     Own(usize),
-    /// The part at this place.
-    At(Way, usize),
-    /// The part at the second place of the group at the first; so also what may stand there, at 0.
-    In(Way, usize, usize),
-    /// The part at the third place of the group at the second, in that at the first.
-    Deep(Way, usize, usize, usize),
-    /// The same one group deeper.
-    Deeper(Way, usize, usize, usize, usize),
-    /// Each turn of the list at this place.
-    Turns(usize, Turn),
-    /// Each turn of the list at the second place of the group at the first.
-    TurnsIn(usize, usize, Turn),
-    /// The names that are exported, where no `from` stands behind them.
-    Exported,
+}
+
+/// What stands in a turn of a list.
+#[derive(Clone, Copy)]
+pub enum Turn {
+    /// What a case of `switch` tests, and its statements.
+    Case,
 }

@@ -4,7 +4,7 @@ use Rattle.std.specs.Option.{unwrap_or}
 use Rattle.std.proofs.Common.{◌≡◌, ◌⊎◌, inl, inr, refl, sym, ap, ◌∙◌, arith}
 use Rattle.std.proofs.lemmas.Bool.Decides.{nat_tests}
 use Rattle.es_token.specs.declared.token.Token.{Token}
-use Rattle.es_scopes.specs.Part.{Marks}
+use Rattle.es_scopes.specs.Marks.{Marks}
 use Rattle.es_lowering.specs.Texts.{ident_of}
 use Rattle.es_scopes.specs.Numbers.{Named, named_in, declaring, numbered, number_at, ids_in}
 use Rattle.es_variables.proofs.scope_numbers_lemmas.Stacks.{none_declaring}

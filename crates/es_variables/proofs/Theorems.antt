@@ -6,7 +6,7 @@ use Rattle.base.specs.declared.range.Range.{Range}
 use Rattle.es_token.specs.declared.token.Token.{Token}
 use Rattle.es_ast.specs.declared.ts.leaf.Ident.{Ident as Name}
 use Rattle.es_lowering.specs.Texts.{ident_of}
-use Rattle.es_scopes.specs.Part.{Marks}
+use Rattle.es_scopes.specs.Marks.{Marks}
 use Rattle.es_scopes.specs.Numbers.{Named, Innermost, named_in, declares, spelled, number_of, numbered as with_numbers, number_at, ids_in}
 use Rattle.es_scopes.proofs.Innermost.{is_innermost}
 use Rattle.es_variables.specs.declared.ident.Ident.{Ident}

@@ -2,7 +2,7 @@ pub mod Equations
 pub mod RowLemmas
 pub mod LeanLemmas
 pub mod PartLemmas
-pub mod OwnLemmas
+pub mod LookLemmas
 pub mod WalkLemmas
 pub mod LeftLemmas
 pub mod StepLemmas

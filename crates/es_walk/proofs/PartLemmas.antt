@@ -81,7 +81,7 @@ module _ {H W A T M : Type 0} (r : Analysis H W A T M) where
   nth_is (u ∷ us) zero = refl
   nth_is (u ∷ us) (suc n) = nth_is us n
 
-  group_there_is : (u : Option Cst) → packed (map (part_of r) (group_there u)) ≡ as_group (there r u)
+  pub group_there_is : (u : Option Cst) → packed (map (part_of r) (group_there u)) ≡ as_group (there r u)
   group_there_is None = refl
   group_there_is (Some u) = group_is u
 
@@ -89,7 +89,7 @@ module _ {H W A T M : Type 0} (r : Analysis H W A T M) where
       → packed (map (part_of r) (group_there (nth us n))) ≡ group (packed (map (part_of r) us)) n
   in_is us n = group_there_is (nth us n) ∙ ap as_group (nth_is us n)
 
-  follow_is : (us : List Cst) (to : Path) → there r (follow_trees us to) ≡ follow (packed (map (part_of r) us)) to
+  pub follow_is : (us : List Cst) (to : Path) → there r (follow_trees us to) ≡ follow (packed (map (part_of r) us)) to
   follow_is us (path.At n) = nth_is us n
   follow_is us (path.In n m) =
       nth_is (group_there (nth us n)) m ∙ ap (λ p. part p m) (in_is us n)
@@ -131,9 +131,3 @@ module _ {H W A T M : Type 0} (r : Analysis H W A T M) where
   pub number_is : (t : Cst) → number_in (part_of r t) ≡ number_of t
   unfolding number_of
   number_is t = ap (λ (u : Cst). number_in (part_of r u)) (sym (roll-out-Cst t)) ∙ number_of_layer (out-Cst t)
-
-  pub number_there : (p : Part (H → List M)) → p ≡ absent → number_in p ≡ None
-  number_there p e = ap number_in e
-
-  pub group_none : (p : Part (H → List M)) → p ≡ absent → is_there (as_group p) ≡ false
-  group_none p e = ap (λ q. is_there (as_group q)) e

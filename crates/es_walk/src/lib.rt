@@ -5,18 +5,18 @@
 //! - `Walk`: an analysis. Its ghost member `rules` is what it means; the clauses of its methods say that they compute it.
 //! - `Step`, `Path`: what is done at a node, and where its parts stand.
 //! - `walk`, `walk_first`: exactly what the rules meet in a tree (`walked`, `specs/Walk.antt`).
-//! - `part_at`, `number_at`, `own_at`, `has_parts`, `has_second`, `first`, `inside`: what `leads` and `act` may ask of the
-//!   parts of a node.
+//! - `number_at`, `own_at`, `has_parts`, `has_second`: what `leads` and `act` may ask of the parts of a node.
 #![tactic(auto)]
 
 mod analysis;
 mod levels;
 mod looks;
+mod questions;
 mod rows;
 mod step;
 
 pub use analysis::Walk;
 pub use levels::{walk, walk_first};
-pub use looks::{first, has_parts, has_second, inside, number_at, own_at, part_at};
+pub use questions::{has_parts, has_second, number_at, own_at};
 pub use rows::split_trees;
 pub use step::{Path, Step};

@@ -10,7 +10,7 @@ use Rattle.es_syntax.specs.declared.entry.Lean.{Lean}
 use Rattle.es_syntax.specs.declared.entry.Lean.TheVariants as vLean
 use Rattle.es_syntax.specs.Held.{label_of}
 use Rattle.es_syntax.specs.Trees.{Kept, leant_tree, trees_in}
-use Rattle.es_scopes.specs.Rows.{kept}
+use Rattle.es_walk.specs.Rows.{kept}
 use Rattle.es_variables.specs.scope_analysis.Part.{Part, absent, nil, more, token, node, packed, as_target}
 use Rattle.es_variables.specs.scope_analysis.Events.{part_of, own, name_in, class_in, is_constructor}
 use Rattle.es_variables.specs.declarations.Rows.{parts_of}

@@ -10,8 +10,8 @@ use Rattle.es_syntax.specs.declared.entry.Lean.{Lean}
 use Rattle.es_syntax.specs.declared.cursor.Siblings.{Siblings}
 use Rattle.es_syntax.specs.declared.cursor.Item.{Item}
 use Rattle.es_syntax.specs.Trees.{Kept, leant_tree, trees_in, trees}
-use Rattle.es_scopes.specs.Rows.{kept, first_trees}
-use Rattle.es_scopes.proofs.RowLemmas.{trees_kept, trees_none}
+use Rattle.es_walk.specs.Rows.{kept, first_trees}
+use Rattle.es_walk.proofs.RowLemmas.{trees_kept, trees_none}
 use Rattle.es_variables.specs.scope_analysis.Part.{Part, absent, nil, more, token, node, part, as_group, number_in, own_in, packed, as_target}
 use Rattle.es_variables.specs.scope_analysis.Events.{part_of}
 use Rattle.es_variables.specs.declarations.Rows.{parts_of, first_in}

@@ -10,7 +10,7 @@ use Rattle.es_grammar.specs.declared.cst.tree.Cst.TheVariants as vCst
 use Rattle.es_syntax.specs.declared.entry.Entry.{Entry}
 use Rattle.es_syntax.specs.declared.entry.Lean.{Lean}
 use Rattle.es_syntax.specs.Trees.{first_tree, leant_tree, trees_in, trees}
-use Rattle.es_scopes.specs.Rows.{kept}
+use Rattle.es_walk.specs.Rows.{kept}
 use Rattle.es_variables.specs.declared.scope_analysis.steps.Visit.{Visit}
 use Rattle.es_variables.specs.declared.scope_analysis.steps.Visit.TheVariants as visit
 use Rattle.es_variables.specs.scope_analysis.Part.{Events, Part, absent, nil, more, token, node, found, at, packed, as_target}

@@ -8,7 +8,7 @@ use Rattle.es_token.specs.declared.token.Token.{Token}
 use Rattle.es_scopes.specs.declared.steps.Place.{Place}
 use Rattle.es_scopes.specs.declared.steps.Mark.{Mark}
 use Rattle.es_scopes.specs.declared.steps.Mark.TheVariants as mark
-use Rattle.es_scopes.specs.Part.{Marks}
+use Rattle.es_scopes.specs.Marks.{Marks}
 use Rattle.es_scopes.specs.Numbers.{Scope, Named, named_in, closed, innermost, home, is_number, same_spelling, declaring, numbered}
 use Rattle.es_variables.specs.scope_numbers.Stacks.{Opened, declared_in, last_of, spelled_at, copies, stack_in, left_in, AreDeclared, AreStacked}
 use Rattle.es_variables.specs.scope_numbers.Spelt.{extra, popped}

@@ -7,7 +7,7 @@ use Rattle.es_syntax.specs.declared.entry.Lean.TheVariants as vLean
 use Rattle.es_syntax.specs.declared.cursor.Siblings.{Siblings}
 use Rattle.es_syntax.specs.declared.cursor.Item.{Item}
 use Rattle.es_syntax.specs.Trees.{trees}
-use Rattle.es_scopes.specs.Rows.{tree_at}
+use Rattle.es_walk.specs.Rows.{tree_at}
 use Rattle.es_variables.specs.declared.scope_analysis.steps.Visit.{Visit}
 use Rattle.es_variables.specs.declared.scope_analysis.steps.Visit.TheVariants as visit
 use Rattle.es_variables.specs.declared.scope_analysis.steps.Way.TheVariants as way

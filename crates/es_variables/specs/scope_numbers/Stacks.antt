@@ -5,7 +5,7 @@ use Rattle.std.specs.List.{filter}
 use Rattle.es_token.specs.declared.token.Token.{Token}
 use Rattle.es_lowering.specs.Texts.{ident_of}
 use Rattle.es_variables.specs.declared.scope_numbers.opened.OpenScope.{OpenScope}
-use Rattle.es_scopes.specs.Part.{Marks}
+use Rattle.es_scopes.specs.Marks.{Marks}
 use Rattle.es_scopes.specs.Numbers.{Scope, Named, named_in, home, hoisting, is_number, same_spelling, numbered}
 
 -- the open scopes, the innermost first, and the number of the next one

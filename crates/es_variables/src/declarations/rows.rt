@@ -9,9 +9,9 @@ ghost use Rattle.es_variables.specs.declarations.Rows.{parts_of, part_in, first_
 
 use crate::declarations::source::Source;
 use es_grammar::NodeKind;
-use es_scopes::split_trees;
 use es_syntax::{Item, Siblings, What};
 use es_token::TokenKind;
+use es_walk::split_trees;
 
 /// The first part in a row, and those behind it.
 pub fn split<'t>(row: &Siblings<'t>) -> Option<(Item<'t>, Siblings<'t>)>
