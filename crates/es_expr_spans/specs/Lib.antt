@@ -1,0 +1,2 @@
+-- the range of an expression
+pub mod Spans
