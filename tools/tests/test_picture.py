@@ -2,6 +2,7 @@
 import json
 import os
 import re
+import shutil
 import subprocess
 import unittest
 import xml.etree.ElementTree as xml
@@ -58,10 +59,24 @@ class Picture(unittest.TestCase):
         data = json.loads(re.search(r'<script type="application/json" id="data">(.*)</script>', page)[1])
         self.assertEqual(data["entries"][4][:5], ["https://x.test/b.js", "https://x.test/", "b.js", "Missing", "error Missing"])
         self.assertEqual(len(data["edges"]), 6)
+        self.assertEqual(data["cycles"], [])
         self.assertEqual([(row[0], row[2]) for row in data["faults"]], [(3, '<"&\u0000')])
         self.assertNotIn("http://", page.replace("http://www.w3.org/2000/svg", ""))
         self.assertEqual(page.count("<script"), 2)
         self.assertNotIn(" src=", page)
+
+    def test_html_has_the_cycles(self):
+        page = drawn("--html", report=REPORT.replace("  dynamic 3-9", "  import 3-9"))
+        data = json.loads(re.search(r'<script type="application/json" id="data">(.*)</script>', page)[1])
+        self.assertEqual([sorted(data["entries"][at][0] for at in part) for part in data["cycles"]], [["file:///lib/new.ts", "file:///src/a.ts"]])
+
+    def test_the_script_is_one(self):
+        """As far as node can see without a browser."""
+        if not shutil.which("node"):
+            self.skipTest("there is no node")
+        for name in ("page.js",):
+            done = subprocess.run(["node", "--check", os.path.join(os.path.dirname(TOOL), "parts", name)], capture_output=True, text=True, check=False)
+            self.assertEqual((done.returncode, done.stderr), (0, ""))
 
     def test_dot(self):
         lines = drawn("--dot").splitlines()
