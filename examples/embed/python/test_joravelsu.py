@@ -7,7 +7,7 @@ import unittest
 
 import joravelsu
 
-EXAMPLES = os.path.dirname(os.path.dirname(os.path.dirname(os.path.abspath(__file__))))
+EXAMPLES = os.path.join(os.path.dirname(os.path.abspath(__file__)), "..", "..", "bundles")
 
 
 def raw_sites(text, media_type, sites_length, values_length):
