@@ -2,6 +2,7 @@
 import importlib.machinery
 import importlib.util
 import os
+import re
 import tempfile
 import unittest
 
@@ -88,6 +89,18 @@ class Prove(Folder):
 
     def test_nothing_is_built_over_what_is_not_proved(self):
         self.assertFalse(prove.are_built({"low"}))
+
+
+class Joined(unittest.TestCase):
+    def test_the_program_makes_the_calls_of_the_library(self):
+        with tempfile.TemporaryDirectory() as room:
+            root = unproved.joined_sources(room)
+            with open(os.path.join(root, "crates", unproved.LIBRARY, "src", "main.rt"), encoding="utf-8") as file:
+                text = file.read()
+            self.assertEqual((text.count("call_each(&rt);"), text.count("fn main("), text.count("#![tactic")), (1, 1, 1))
+            library = unproved.source(unproved.LIBRARY, "lib.rt")
+            for name in re.findall(r'extern "C" fn (joravelsu_\w+)', library):
+                self.assertIn(f" = {name}(", unproved.CALLS)
 
 
 if __name__ == "__main__":
