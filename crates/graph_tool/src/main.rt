@@ -10,13 +10,17 @@ mod tests;
 
 use crate::adapters::{ReadSource, WriteSink};
 use graph_run::{Status, run};
+use std::alloc::AllocError;
+use std::env;
+use std::io::{self, ErrorKind};
 use std::process::ExitCode;
-use std::{env, io};
 use vendor_run::{folder_of, run_vendor};
 
 fn main(rt: HostRuntime) -> ExitCode {
     let words = match env::args(&rt) {
         Ok(words) => words.skip(1).collect(rt.alloc()),
+        Err(error) if error.kind() == ErrorKind::OutOfMemory => Err(AllocError),
+        // A word is no UTF-8.
         Err(_) => return ExitCode::from(Status::Usage.code()),
     };
     let Ok(words) = words else {

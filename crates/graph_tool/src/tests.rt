@@ -30,6 +30,46 @@ impl Write for Broken {
     }
 }
 
+/// A reader and a writer that a signal interrupts so many times, and then takes what it is given.
+#[derive(Drop)]
+struct Interrupted {
+    times: u32,
+}
+
+impl Interrupted {
+    fn call(&mut self) -> io::Result<()> {
+        if self.times > 0 {
+            self.times -= 1;
+            return Err(io::ErrorKind::Interrupted.into());
+        }
+        Ok(())
+    }
+}
+
+impl Read for Interrupted {
+    fn read(&mut self, buf: &mut [u8]) -> io::Result<usize> {
+        self.call()?;
+        match buf.first_mut() {
+            Some(byte) => {
+                *byte = b'x';
+                Ok(1)
+            }
+            None => Ok(0),
+        }
+    }
+}
+
+impl Write for Interrupted {
+    fn write(&mut self, buf: &[u8]) -> io::Result<usize> {
+        self.call()?;
+        Ok(buf.len())
+    }
+
+    fn flush(&mut self) -> io::Result<()> {
+        self.call()
+    }
+}
+
 #[test]
 fn bytes_go_through_a_pipe(rt: HostRuntime) -> Result<(), Fail> {
     let (reader, writer) = io::pipe(&rt)?;
@@ -56,5 +96,16 @@ fn errors_and_writes_of_nothing_are_faults(rt: HostRuntime) -> Result<(), Fail> 
         let mut sink = WriteSink::new(Broken { takes_nothing });
         assert_eq!(rt; sink.write(b"x"), Err(Failed), "{takes_nothing}");
     }
+    Ok(())
+}
+
+#[test]
+fn what_a_signal_interrupts_is_tried_again(rt: HostRuntime) -> Result<(), Fail> {
+    let mut source = ReadSource::new(Interrupted { times: 3 });
+    let mut buffer = [0; 8];
+    assert_eq!(rt; source.read(&mut buffer), Ok(1));
+    assert_eq!(rt; &buffer[..1], b"x".as_slice());
+    let mut sink = WriteSink::new(Interrupted { times: 3 });
+    assert_eq!(rt; sink.write(b"xy"), Ok(2));
     Ok(())
 }
