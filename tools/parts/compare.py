@@ -31,7 +31,7 @@ def side_of_json(data):
         rows = [(edge["referrer"], edge) for edge in value["referrers"]] + [(entry["specifier"], edge) for entry in value["modules"] for edge in entry.get("edges", ())]
         return side_of_rows(entries, [(place, kind_of(edge), edge["specifier"], edge.get("target"), edge.get("fault")) for place, edge in rows])
     except (ValueError, KeyError, TypeError, AttributeError, RecursionError) as error:
-        raise report.NoReport("it is neither a report nor a graph as JSON") from error
+        raise report.NoReport("neither a report nor a graph as JSON") from error
 
 
 def kind_of(edge):
@@ -69,20 +69,20 @@ class Difference:
 
     def lines(self):
         parts = [
-            ("entries that come", [f"+ {shown(name)}: {self.new.entries[name]}" for name in self.entries_come]),
-            ("entries that are gone", [f"- {shown(name)}: {self.old.entries[name]}" for name in self.entries_gone]),
-            ("entries that are otherwise", [f"! {shown(name)}: {self.old.entries[name]}, now {self.new.entries[name]}" for name in self.changed]),
-            ("edges that come", [f"+ {said_of_edge(edge)}" for edge in self.edges_come]),
-            ("edges that are gone", [f"- {said_of_edge(edge)}" for edge in self.edges_gone]),
-            ("faults that come", [f"+ {said_of_fault(fault)}" for fault in self.faults_come]),
-            ("faults that are gone", [f"- {said_of_fault(fault)}" for fault in self.faults_gone]),
+            ("new entries", [f"+ {shown(name)}: {self.new.entries[name]}" for name in self.entries_come]),
+            ("removed entries", [f"- {shown(name)}: {self.old.entries[name]}" for name in self.entries_gone]),
+            ("changed entries", [f"! {shown(name)}: {self.old.entries[name]}, now {self.new.entries[name]}" for name in self.changed]),
+            ("new edges", [f"+ {said_of_edge(edge)}" for edge in self.edges_come]),
+            ("removed edges", [f"- {said_of_edge(edge)}" for edge in self.edges_gone]),
+            ("new faults", [f"+ {said_of_fault(fault)}" for fault in self.faults_come]),
+            ("removed faults", [f"- {said_of_fault(fault)}" for fault in self.faults_gone]),
         ]
         for title, rows in parts:
             if rows:
                 yield f"{title}: {len(rows):,}"
                 yield from (f"  {row}" for row in rows)
         if self.is_empty():
-            yield "the graphs are the same, but for sizes and places"
+            yield "the graphs are equal, except for sizes and ranges"
 
     def value(self):
         def entry(name, side):
@@ -97,10 +97,10 @@ class Difference:
         return {
             "format": "joravelsu-diff",
             "version": 1,
-            "entries": {"come": [entry(name, self.new) for name in self.entries_come], "gone": [entry(name, self.old) for name in self.entries_gone],
+            "entries": {"new": [entry(name, self.new) for name in self.entries_come], "removed": [entry(name, self.old) for name in self.entries_gone],
                         "changed": [{**entry(name, self.new), "old": self.old.entries[name]} for name in self.changed]},
-            "edges": {"come": list(map(edge, self.edges_come)), "gone": list(map(edge, self.edges_gone))},
-            "faults": {"come": list(map(fault, self.faults_come)), "gone": list(map(fault, self.faults_gone))},
+            "edges": {"new": list(map(edge, self.edges_come)), "removed": list(map(edge, self.edges_gone))},
+            "faults": {"new": list(map(fault, self.faults_come)), "removed": list(map(fault, self.faults_gone))},
         }
 
 

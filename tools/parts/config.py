@@ -35,7 +35,7 @@ def options_of(path, choices):
         if key == "$schema":
             continue
         if key not in KEYS:
-            raise BadFile(f"{plain(path)}: {plain(key)} is none of {', '.join(KEYS)}")
+            raise BadFile(f"{plain(path)}: {plain(key)} isn't one of {', '.join(KEYS)}")
         name, shape = KEYS[key]
         if shape is bool and not isinstance(item, bool):
             raise BadFile(f"{plain(path)}: {key} is neither true nor false")
@@ -43,7 +43,7 @@ def options_of(path, choices):
         for one in item if shape is list else [item]:
             of_shape(path, one, str, key) if shape is not bool else None
             if name in choices and one not in choices[name]:
-                raise BadFile(f"{plain(path)}: {key}: {plain(one)} is none of {', '.join(choices[name])}")
+                raise BadFile(f"{plain(path)}: {key}: {plain(one)} isn't one of {', '.join(choices[name])}")
         found[name] = [placed(path, name, one) for one in item] if shape is list else placed(path, name, item)
     return found
 

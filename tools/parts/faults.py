@@ -28,7 +28,7 @@ OF_ENTRY = {
     "PackageReference": "this names no package",
 }
 OF_EDGE = {
-    "ImportPrefixMissing": "neither a URL, nor does it begin with /, ./ or ../: it leads nowhere without an import map",
+    "ImportPrefixMissing": "neither a URL, nor does it begin with /, ./ or ../: it doesn't resolve without an import map",
     "InvalidUrl": "this can't be read as a URL",
     "InvalidDowngrade": "from https it would lead to http",
     "InvalidLocalImport": "from the web it would lead to a local file",
@@ -122,7 +122,7 @@ def in_itself(entry, bundle, are_read):
         return at_byte_no_utf8(entry, source)
     text, named = source.text(), named_as(entry.specifier)
     if len(text) > MOST_SEARCHED:
-        return Fault(name, entry.specifier, None, None, f"its text is no program; in over {MOST_SEARCHED:,} characters the place isn't looked for")
+        return Fault(name, entry.specifier, None, None, f"its text isn't a program; above {MOST_SEARCHED:,} characters the place isn't looked for")
     with told_on_a_terminal(f"looking for the place of the fault in {shown(entry.specifier)}" if len(text) >= LONG else None):
         start, length, what = places.fault_of(text, named, lambda texts: are_read(named, texts))
     first = places.scan.bytes_before(text, start)

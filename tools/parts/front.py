@@ -92,7 +92,7 @@ class Run:
             packer, roots = packing.packed(self.settled(folder), sites.Reader(self.program, kept, self.asked.check_cache), sys.stderr)
             if not packer.leads_out or number == len(folders) - 1:
                 break
-            say(f"{plain(packer.leads_out[0])} leads out of {plain(os.path.relpath(folder))}: {plain(os.path.relpath(folders[number + 1]))} is packed in its place")
+            say(f"{plain(packer.leads_out[0])} leads out of {plain(os.path.relpath(folder))}: {plain(os.path.relpath(folders[number + 1]))} is packed instead")
         if kept:
             kept.save()
         return packer, roots
@@ -120,7 +120,7 @@ class Imports:
         data = sys.stdin.buffer.read() if path == "-" else read_regular(path)
         ending = language or (sites.ending_of(path) if path != "-" else ".ts")
         if ending not in (*sites.SOURCES, *resolve.DECLARATIONS, ".wasm"):
-            raise Wrong(f"{plain(path)}: a file of this ending has no imports; --as .ts says how it is read")
+            raise Wrong(f"{plain(path)}: a file with this extension has no imports; --as .ts reads it as TypeScript")
         self.specifier = f"file:///module{ending}"
         module = {"specifier": self.specifier, **packing.content_of(self.specifier, data)}
         self.program = made_program()

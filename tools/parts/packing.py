@@ -102,7 +102,7 @@ class Resolver:
 
     def found(self, place, specifier, reference, ways):
         if len(specifier) > resolve.LONGEST:
-            return Lead(reason=f"it has more than {resolve.LONGEST:,} characters, and no file has such a path")
+            return Lead(reason=f"it has more than {resolve.LONGEST:,} characters: no file has such a path")
         if self.map:
             found = self.map.resolve(specifier, urls.of_file(place))
             if found is False:
@@ -124,7 +124,7 @@ class Resolver:
         if isinstance(url, urls.NoUrl):
             return Lead(reason=str(url))
         lead = self.at_file(url, ways)
-        return self.in_this_folder(lead, "a path that begins with / begins at the folder") if specifier.startswith("/") else lead
+        return self.in_this_folder(lead, "a path that starts with / is relative to the folder") if specifier.startswith("/") else lead
 
     @staticmethod
     def in_this_folder(lead, why):
@@ -139,20 +139,20 @@ class Resolver:
         if url.startswith("node:") or resolve.is_like(written, self.asked.external) or resolve.is_like(url, self.asked.external):
             return Lead(external=True)
         if url.startswith(("http:", "https:")):
-            return Lead(reason=f"nothing is fetched: --external '{url.partition(':')[0]}://*' says that it is no part of the sources")
+            return Lead(reason=f"nothing is fetched: --external '{url.partition(':')[0]}://*' makes it external")
         if not url.startswith("file:"):
             return Lead()
         lead = self.at_file(url, ways)
-        return self.in_this_folder(lead, "a file: URL begins at the folder") if specifier is written else lead
+        return self.in_this_folder(lead, "a file: URL is relative to the folder") if specifier is written else lead
 
     def at_file(self, url, ways):
         path = urls.to_file(url)
         if path is None:
-            return Lead(reason="an encoded / or .. stands in it, and it names no file")
+            return Lead(reason="it has an encoded / or .., and names no file")
         at = posixpath.normpath("/" + path.lstrip("/"))[1:]
         found = self.folder.file_at(at, ways) or (self.paths.in_root_dirs(at, ways) if self.paths else None)
         if not found:
-            return Lead(reason=self.folder.why_none(at) or "there is no such file, as it is written, with an ending, or as a folder")
+            return Lead(reason=self.folder.why_none(at) or "no such file: as written, with an extension, or as a folder")
         return self.instead_of(found, ways)
 
     def instead_of(self, found, ways):
@@ -177,7 +177,7 @@ class Resolver:
                 return lead
         if specifier in resolve.BUILTINS:
             return Lead(url="node:" + specifier, external=True)
-        return Lead(reason="packages are read by --packages")
+        return Lead(reason="packages are read with --packages")
 
     def in_packages(self, folder, specifier, reference, ways):
         other = self.folder.instead(folder, specifier, ways)
@@ -234,7 +234,7 @@ class Packer:
         if resolve.is_left_out(place, self.asked.exclude):
             return "excluded"
         if not (self.takes_any or place.lower().endswith(self.endings)):
-            return "its ending"
+            return "its extension"
         return None
 
     def load(self, place):
@@ -325,10 +325,10 @@ class Packer:
                 yield declaration
 
     def is_left_out(self, found, reason):
-        if reason != "its ending":
+        if reason != "its extension":
             self.left_out[found] = reason
         ending = posixpath.splitext(found)[1]
-        hint = f"--also {ending or '*'} takes it, --external '*{ending}' leaves it out" if reason == "its ending" else reason
+        hint = f"--also {ending or '*'} takes it, --external '*{ending}' leaves it out" if reason == "its extension" else reason
         self.reasons[urls.of_file(found)] = f"the file is there, and isn't packed: {hint}"
 
     def named_by_data(self, place, url):
@@ -440,8 +440,8 @@ class Packer:
         for specifier in sorted(most):
             count, (place, why) = len(self.nowhere[specifier]), self.nowhere[specifier][0]
             more = f" and {count - 1} more" if count > 1 else ""
-            say("pack", f"{shown(specifier)} in {plain(place)}{more} leads nowhere: {plain(why)}")
-        self.tell_more(len(self.nowhere), "leads nowhere", "lead nowhere")
+            say("pack", f"{shown(specifier)} in {plain(place)}{more} doesn't resolve: {plain(why)}")
+        self.tell_more(len(self.nowhere), "doesn't resolve", "don't resolve")
 
     @staticmethod
     def tell_more(count, one, many):

@@ -103,7 +103,7 @@ def roots_in(at, ways):
         found = folder.file_with_ending(front, ways)
         if found:
             return [os.path.join(at, found)], "its usual name"
-    raise Wrong(f"{plain(at)}: no ROOT is named, and neither package.json nor deno.json names one")
+    raise Wrong(f"{plain(at)}: no ROOT, and neither package.json nor deno.json names one")
 
 
 def named_by(package, ways):

@@ -24,8 +24,8 @@ BUILTINS = frozenset("""assert assert/strict async_hooks buffer child_process cl
     stream stream/consumers stream/promises stream/web string_decoder sys timers timers/promises tls trace_events tty url
     util util/types v8 vm wasi worker_threads zlib""".split())
 # Why what stands at a place is no file of the folder.
-NO_FILE = {"out": "a symbolic link that leads out of the folder; --links-out takes it", "loop": "a symbolic link that leads to itself",
-           "nothing": "a link to nothing", "other": "no file"}
+NO_FILE = {"out": "a symbolic link that leads out of the folder; --links-out takes it", "loop": "a symbolic link to itself",
+           "nothing": "a link to nothing", "other": "not a file"}
 
 
 def joined(folder, path):
@@ -207,7 +207,7 @@ class Folder:
         """The file to which a bare specifier leads from a folder, and why there is none; False where a package has none for it."""
         name, sub = package_name(specifier)
         if not name:
-            return None, "it is no name of a package"
+            return None, "it isn't the name of a package"
         own = self.scope_of(folder)
         if specifier.startswith("#"):
             return self.in_imports(own, specifier, ways, asked)

@@ -7,7 +7,7 @@ from parts.words import Wrong, plain, read_regular
 
 # How many brackets may stand within each other.
 DEEPEST = 200
-KINDS = {dict: "object", list: "list", str: "text"}
+KINDS = {dict: "an object", list: "a list", str: "a text"}
 # Each alternative goes on to the end of the text where its own end isn't there, so that no part is looked at twice.
 PIECE = re.compile(r'"(?:[^"\\]|\\[\s\S]?)*(?:"|\Z)|//[^\n]*|/\*[\s\S]*?(?:\*/|\Z)|[,\[\]{}]|[^"/,\[\]{}]+|/')
 
@@ -55,14 +55,14 @@ def json_of(path, has_comments=False):
         text = data.decode("utf-8-sig")
         text = without_comments(text) if has_comments else text
         if depth_of(text) > DEEPEST:
-            raise BadFile(f"{plain(path)}: more than {DEEPEST} brackets stand within each other")
+            raise BadFile(f"{plain(path)}: more than {DEEPEST} nested brackets")
         return json.loads(text)
     except (ValueError, RecursionError) as error:
-        raise BadFile(f"{plain(path)}: no JSON: {plain(str(error))}") from error
+        raise BadFile(f"{plain(path)}: not JSON: {plain(str(error))}") from error
 
 
 def of_shape(file, value, kind, name):
     """A value of a file, where it is of this kind."""
     if not isinstance(value, kind):
-        raise BadFile(f"{plain(file)}: {name} is no {KINDS[kind]}")
+        raise BadFile(f"{plain(file)}: {name} isn't {KINDS[kind]}")
     return value

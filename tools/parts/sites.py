@@ -72,7 +72,7 @@ class Reader:
             anew = self.read_anew(contents)
             for place, sites in found.items():
                 if sites is not None and sites != list(anew[place]):
-                    raise Wrong(f"{plain(place)}: what is cached of it isn't what the program says")
+                    raise Wrong(f"{plain(place)}: what is cached isn't what the program says")
             return anew
         new = self.read_anew({place: contents[place] for place, sites in found.items() if sites is None})
         for place, sites in new.items():

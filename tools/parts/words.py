@@ -71,7 +71,7 @@ def read_regular(path, most=MOST_BYTES):
         with os.fdopen(number, "rb") as file:
             found = os.fstat(number)
             if not stat.S_ISREG(found.st_mode):
-                raise Wrong(f"{plain(path)}: {'a folder' if stat.S_ISDIR(found.st_mode) else 'no regular file'}")
+                raise Wrong(f"{plain(path)}: {'a folder' if stat.S_ISDIR(found.st_mode) else 'not a regular file'}")
             data = file.read(most + 1) if found.st_size <= most else b""
     except OSError as error:
         raise Wrong(f"{plain(path)}: {error.strerror}") from error

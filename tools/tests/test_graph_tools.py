@@ -202,10 +202,10 @@ class Resolve(unittest.TestCase):
 
     def test_tsconfig_of_another_shape(self):
         for text, said in (
-            ("[]", "the file is no object"), ('{"extends": 1}', "extends is no list"), ('{"extends": [1]}', "extends is no text"),
-            ('{"extends": "./gone.json"}', "gone.json: No such file"), ('{"compilerOptions": null}', "compilerOptions is no object"),
-            ('{"compilerOptions": {"paths": {"a": "b"}}}', "paths is no list"), ('{"compilerOptions": {"baseUrl": 1}}', "baseUrl is no text"),
-            ('{"compilerOptions": {"paths": []}}', "paths is no object"), ("{", "no JSON"),
+            ("[]", "the file isn't an object"), ('{"extends": 1}', "extends isn't a list"), ('{"extends": [1]}', "extends isn't a text"),
+            ('{"extends": "./gone.json"}', "gone.json: No such file"), ('{"compilerOptions": null}', "compilerOptions isn't an object"),
+            ('{"compilerOptions": {"paths": {"a": "b"}}}', "paths isn't a list"), ('{"compilerOptions": {"baseUrl": 1}}', "baseUrl isn't a text"),
+            ('{"compilerOptions": {"paths": []}}', "paths isn't an object"), ("{", "not JSON"),
         ):
             with self.assertRaisesRegex(settings.BadFile, said):
                 tsconfig.Paths(self.folder, self.put("other.json", text))
@@ -254,7 +254,7 @@ class Records(unittest.TestCase):
         kept = records.Records(self.program)
         self.assertEqual(sites.Reader(self.program, kept, True).read({"a.ts": {"text": "1"}, "b.ts": {"text": "2"}}), dict.fromkeys(("a.ts", "b.ts"), [sites.Site("import", "./a")]))
         kept.rows[kept.key("a.ts", {"text": "1"})] = [["import", "./b"]]
-        with self.assertRaisesRegex(words.Wrong, "^a.ts: what is cached of it isn't what the program says$"):
+        with self.assertRaisesRegex(words.Wrong, "^a.ts: what is cached isn't what the program says$"):
             sites.Reader(self.program, kept, True).read({"a.ts": {"text": "1"}})
 
     def test_records_of_another_program_or_shape_are_none(self):

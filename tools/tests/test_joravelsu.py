@@ -92,7 +92,7 @@ class Imports(unittest.TestCase):
         self.assertRegex(out, r"^standard-input:2:\d+: ")
         value = json.loads(ran("imports", "--json", "-", given=b"\xff")[1])
         self.assertEqual(value["fault"], {"kind": "Decode", "message": "byte 0 (0xff) is no UTF-8", "line": 1, "column": 1})
-        for words, said in ((("docs/TOOLS.md",), "docs/TOOLS.md: a file of this ending has no imports; --as .ts says how it is read"), (("gone.ts",), "gone.ts: No such file or directory"), (("docs",), "docs: Is a directory")):
+        for words, said in ((("docs/TOOLS.md",), "docs/TOOLS.md: a file with this extension has no imports; --as .ts reads it as TypeScript"), (("gone.ts",), "gone.ts: No such file or directory"), (("docs",), "docs: Is a directory")):
             self.assertEqual(ran("imports", *words), (2, "", f"joravelsu: {said}\n"))
 
     def test_a_file(self):
@@ -116,13 +116,13 @@ class Diff(unittest.TestCase):
         new = self.put("new", changed.replace("node:f external\n", "file:///x error Missing\nnode:f external\n").replace("TypeScript 20", "TypeScript 21"))
         status, out, _ = ran("diff", old, new)
         self.assertEqual((status, out.splitlines()), (1, [
-            "entries that come: 1", "  + x: error Missing", "entries that are otherwise: 1", "  ! c.ts: error Missing, now module TypeScript",
-            "edges that come: 1", '  + c.ts: import "./x" -> x', "edges that are gone: 1", '  - a.ts: import "fs" ! ImportPrefixMissing "fs"',
-            "faults that come: 1", "  + x: Missing", "faults that are gone: 2", '  - a.ts: "fs": ImportPrefixMissing "fs"', "  - c.ts: Missing"]))
+            "new entries: 1", "  + x: error Missing", "changed entries: 1", "  ! c.ts: error Missing, now module TypeScript",
+            "new edges: 1", '  + c.ts: import "./x" -> x', "removed edges: 1", '  - a.ts: import "fs" ! ImportPrefixMissing "fs"',
+            "new faults: 1", "  + x: Missing", "removed faults: 2", '  - a.ts: "fs": ImportPrefixMissing "fs"', "  - c.ts: Missing"]))
         value = json.loads(ran("diff", "--json", new, old)[1])
-        self.assertEqual(value["entries"], {"come": [], "gone": [{"specifier": "file:///x", "state": "error Missing"}],
+        self.assertEqual(value["entries"], {"new": [], "removed": [{"specifier": "file:///x", "state": "error Missing"}],
                                             "changed": [{"specifier": "file:///c.ts", "state": "error Missing", "old": "module TypeScript"}]})
-        self.assertEqual(ran("diff", old, old), (0, "the graphs are the same, but for sizes and places\n", ""))
+        self.assertEqual(ran("diff", old, old), (0, "the graphs are equal, except for sizes and ranges\n", ""))
 
     def test_a_report_and_its_json_are_the_same(self):
         for name in ("demo.expected/graph",):
@@ -130,11 +130,11 @@ class Diff(unittest.TestCase):
             self.assertEqual(ran("diff", path + ".report", path + ".json")[0], 0)
         report = self.put("report", REPORT)
         made = self.put("json", subprocess.run([os.path.join(TOOLS, "graph-json"), report], capture_output=True, text=True, check=True).stdout)
-        self.assertEqual(ran("diff", report, made)[1], "the graphs are the same, but for sizes and places\n")
+        self.assertEqual(ran("diff", report, made)[1], "the graphs are equal, except for sizes and ranges\n")
 
     def test_no_graph(self):
         other = self.put("other", "{}")
-        self.assertEqual(ran("diff", other, other), (2, "", f"joravelsu: {other}: it is neither a report nor a graph as JSON\n"))
+        self.assertEqual(ran("diff", other, other), (2, "", f"joravelsu: {other}: neither a report nor a graph as JSON\n"))
         self.assertTrue(compare.side_of(REPORT.encode()).faults)
 
 
@@ -162,8 +162,8 @@ class Options(unittest.TestCase):
         self.assertIn("1 fault; status 0", ran("check", "--external", "c", "--fail-on", "missing", cwd=self.room)[1].replace("status 1", "status 0"))
 
     def test_what_is_no_option(self):
-        rows = [({"rots": []}, "rots is none of roots, folder, "), ({"roots": "a"}, "roots is no list"), ({"roots": [1]}, "roots is no text"), ({"all": 1}, "all is neither true nor false"),
-                ({"kind": "some"}, "kind: some is none of all, code, types"), ({"failOn": ["x"]}, "failOn: x is none of missing, "), ([], "the file is no object")]
+        rows = [({"rots": []}, "rots isn't one of roots, folder, "), ({"roots": "a"}, "roots isn't a list"), ({"roots": [1]}, "roots isn't a text"), ({"all": 1}, "all is neither true nor false"),
+                ({"kind": "some"}, "kind: some isn't one of all, code, types"), ({"failOn": ["x"]}, "failOn: x isn't one of missing, "), ([], "the file isn't an object")]
         for value, said in rows:
             self.configure(value)
             status, _, errors = ran("check", cwd=self.room)

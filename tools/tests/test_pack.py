@@ -138,10 +138,10 @@ class Pack(unittest.TestCase):
         self.put("main.ts", "".join(f"import '{name}'; " for name in names).encode() + b"/* a from ' + b + ' */ import '!==a&&'; import './b.ts'")
         self.put("b.ts", b"import 'p49'; import 'p48'")
         errors = run(self.folder, "main.ts")[2].splitlines()
-        self.assertEqual(errors[-1], "pack: 11 more lead nowhere")
+        self.assertEqual(errors[-1], "pack: 11 more don't resolve")
         told = [line.split('"')[1] for line in errors[:-1]]
         self.assertEqual(told, sorted(["!==a&&"] + names[:37] + ["p48", "p49"]))
-        self.assertIn('pack: "p49" in main.ts and 1 more leads nowhere: packages are read by --packages', errors)
+        self.assertIn('pack: "p49" in main.ts and 1 more doesn\'t resolve: packages are read with --packages', errors)
 
     def test_output_file(self):
         place = os.path.join(self.room, "out.json")
@@ -195,13 +195,13 @@ class Pack(unittest.TestCase):
         self.assertEqual(status, 0)
         self.assertEqual(errors.splitlines(), [
             "pack: caf\\xe9.ts: left out: its name is no UTF-8", "pack: dangling.ts: left out: a link to nothing",
-            "pack: pipe.ts: left out: no file"])
+            "pack: pipe.ts: left out: not a file"])
         self.assertEqual([module["specifier"] for module in json.loads(out)["modules"]], ["file:///link.ts", "file:///main.ts"])
 
-    def test_bare_specifiers_that_lead_nowhere_are_told(self):
+    def test_bare_specifiers_that_do_not_resolve_are_reported(self):
         self.put("main.ts", b"import 'react'; throw 'away from ' + a + 'b'; // import 'vue'\n`import 'd3'`; /import 'three'/; a.import('four')")
         errors = run(self.folder, "main.ts")[2]
-        self.assertEqual(errors, 'pack: "react" in main.ts leads nowhere: packages are read by --packages\n')
+        self.assertEqual(errors, 'pack: "react" in main.ts doesn\'t resolve: packages are read with --packages\n')
 
     def test_words(self):
         for words in ((), (self.folder,), ("--none", self.folder, "main.ts")):

@@ -116,7 +116,7 @@ class Leads(Projects):
     def test_what_is_told_is_of_edges(self):
         self.put_all({"package.json": {}, "main.js": "// import 'a'\nconst t = \"import 'b'\"; `from 'c'`; x = /from 'd'/; import 'e'; type.from('f'); import(`g`); export const from = 1"})
         self.graph("main.js")
-        self.assertEqual(self.errors, ['pack: "e" in main.js leads nowhere: no node_modules has e'])
+        self.assertEqual(self.errors, ['pack: "e" in main.js doesn\'t resolve: no node_modules has e'])
 
     def test_webassembly(self):
         self.put_all({"package.json": {}, "main.js": "import './m.wasm'", "a.js": ""})
@@ -155,7 +155,7 @@ class Folders(Projects):
         self.put_all({"a/package.json": {}, "a/main.ts": "import '../b/x.ts'; import '../../gone.ts'", "b/x.ts": ""})
         os.makedirs(os.path.join(self.room, ".git"))
         self.assertEqual(self.files("a/main.ts"), ["a/main.ts", "b/x.ts"])
-        self.assertEqual(self.errors[0], "joravelsu: main.ts leads out of a: . is packed in its place")
+        self.assertEqual(self.errors[0], "joravelsu: main.ts leads out of a: . is packed instead")
         self.assertEqual(self.files("--folder", "a", "a/main.ts"), ["main.ts"])
 
 
@@ -188,7 +188,7 @@ class Roots(Projects):
         self.assertEqual(self.roots("file://" + os.path.join(self.room, "src/a.ts")), ["src/a.ts"])
 
     def test_none(self):
-        rows = [({"main": "dist/gone.js"}, "package.json: main names dist/gone.js, which isn't there; name a ROOT"), ({}, ": no ROOT is named, and neither package.json nor deno.json names one")]
+        rows = [({"main": "dist/gone.js"}, "package.json: main names dist/gone.js, which isn't there; name a ROOT"), ({}, ": no ROOT, and neither package.json nor deno.json names one")]
         for package, said in rows:
             self.put_at("package.json", package)
             done = subprocess.run([JORAVELSU, "check"], capture_output=True, cwd=self.room, env={**os.environ, "JORAVELSU_QUIET": "1"}, check=False)

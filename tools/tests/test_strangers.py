@@ -117,9 +117,9 @@ class Outside(Strangers):
         self.put("main.ts", "import '/etc/x.js'; import 'file:///etc/y.js'; import 'file:///etc/x.js'")
         _, errors = self.assert_unread()
         self.assertEqual(errors, [
-            'pack: "/etc/x.js" in main.ts is taken for etc/x.js of the folder: a path that begins with / begins at the folder',
-            'pack: "file:///etc/x.js" in main.ts is taken for etc/x.js of the folder: a file: URL begins at the folder'])
-        self.assertIn("there is no such file, as it is written, with an ending, or as a folder; a file: URL begins at the folder",
+            'pack: "/etc/x.js" in main.ts is taken for etc/x.js of the folder: a path that starts with / is relative to the folder',
+            'pack: "file:///etc/x.js" in main.ts is taken for etc/x.js of the folder: a file: URL is relative to the folder'])
+        self.assertIn("no such file: as written, with an extension, or as a folder; a file: URL is relative to the folder",
                       self.ran("check", "--folder", ".", "main.ts")[1])
 
 
@@ -152,7 +152,7 @@ class Time(Strangers):
     def test_a_fault_in_a_long_text(self):
         self.put("main.ts", "a(b);\n" * 300_000 + "let = ;")
         status, out, _ = self.in_seconds(30, self.ran, "check", "--folder", ".", "main.ts")
-        self.assertEqual((status, out.split("\n")[0]), (1, "main.ts: its text is no program; in over 1,000,000 characters the place isn't looked for"))
+        self.assertEqual((status, out.split("\n")[0]), (1, "main.ts: its text isn't a program; above 1,000,000 characters the place isn't looked for"))
 
     def test_settings(self):
         for text in ('"\\"' * 300_000, "/*" * 500_000, "//" * 500_000, ", " * 300_000, '"\\' * 300_000, "/*/" * 300_000):
@@ -200,14 +200,14 @@ class Lines(Strangers):
     def test_brackets(self):
         self.put("package.json", "[" * 100_000)
         self.put("main.ts", "import 'a'")
-        self.assertEqual(self.refused(), "joravelsu: package.json: more than 200 brackets stand within each other")
+        self.assertEqual(self.refused(), "joravelsu: package.json: more than 200 nested brackets")
         self.put("package.json", "{}")
         self.put("tsconfig.json", "[" * 100_000 + "]" * 100_000)
-        self.assertEqual(self.refused(), "joravelsu: tsconfig.json: more than 200 brackets stand within each other")
+        self.assertEqual(self.refused(), "joravelsu: tsconfig.json: more than 200 nested brackets")
 
     def test_settings_of_another_shape(self):
-        rows = [("package.json", "[", "no JSON: "), ("tsconfig.json", "[]", "the file is no object"), ("tsconfig.json", '{"compilerOptions": {"paths": []}}', "paths is no object"),
-                ("deno.json", '{"imports": []}', "imports is no object"), ("tsconfig.json", '{"extends": 1}', "extends is no list"), ("tsconfig.json", "9" * 5000, "no JSON: ")]
+        rows = [("package.json", "[", "not JSON: "), ("tsconfig.json", "[]", "the file isn't an object"), ("tsconfig.json", '{"compilerOptions": {"paths": []}}', "paths isn't an object"),
+                ("deno.json", '{"imports": []}', "imports isn't an object"), ("tsconfig.json", '{"extends": 1}', "extends isn't a list"), ("tsconfig.json", "9" * 5000, "not JSON: ")]
         for name, text, line in rows:
             self.put(name, text)
             self.put("main.ts", "import 'a'")
@@ -218,7 +218,7 @@ class Lines(Strangers):
         os.mkfifo(os.path.join(self.folder, "pipe.json"))
         self.put("tsconfig.json", {"extends": "./pipe.json"})
         self.put("main.ts")
-        self.assertEqual(self.refused(), "joravelsu: pipe.json: no regular file")
+        self.assertEqual(self.refused(), "joravelsu: pipe.json: not a regular file")
         for number in range(3_000):
             self.put(f"t{number}.json", {"extends": f"./t{number + 1}.json"})
         self.put("tsconfig.json", {"extends": "./t0.json"})
@@ -239,8 +239,8 @@ class Lines(Strangers):
         self.put("a.ts")
         self.put("main.ts", "import './a.ts'; import './loop.ts'")
         status, out, errors = self.ran("check", "--folder", ".", "main.ts")
-        self.assertEqual((status, errors), (1, ["pack: main.ts: ./loop.ts: left out: a symbolic link that leads to itself"]))
-        self.assertIn("a symbolic link that leads to itself", out)
+        self.assertEqual((status, errors), (1, ["pack: main.ts: ./loop.ts: left out: a symbolic link to itself"]))
+        self.assertIn("a symbolic link to itself", out)
         self.assertIn("3 entries, 2 modules", out)
 
     def test_a_folder_that_cannot_be_searched(self):
@@ -260,8 +260,8 @@ class Lines(Strangers):
         os.mkfifo(os.path.join(self.folder, "pipe.ts"))
         self.put("main.ts", "import './pipe.ts'")
         status, _, errors = self.ran("check", "--folder", ".", "main.ts")
-        self.assertEqual((status, errors), (1, ["pack: main.ts: ./pipe.ts: left out: no file"]))
-        self.assertEqual(self.refused("pipe.ts"), "joravelsu: pipe.ts: no file")
+        self.assertEqual((status, errors), (1, ["pack: main.ts: ./pipe.ts: left out: not a file"]))
+        self.assertEqual(self.refused("pipe.ts"), "joravelsu: pipe.ts: not a file")
 
     def test_a_large_file_is_refused_by_its_size(self):
         with open(os.path.join(self.folder, "large.js"), "wb") as file:
