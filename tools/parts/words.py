@@ -1,6 +1,7 @@
 """How the tools read their words and files, what they write, and how they end."""
 import argparse
 import os
+import re
 import stat
 import sys
 
@@ -52,6 +53,27 @@ def plain(text, keeps=""):
 def plain_lines(lines):
     """The bytes of lines for a terminal: nothing in a line ends it or does something else there."""
     return "".join(plain(line, "\t") + "\n" for line in lines).encode("utf-8", "backslashreplace")
+
+
+def has_colours(stream):
+    """Whether a stream is a terminal that shows colours, and NO_COLOR isn't set."""
+    return stream is not None and stream.isatty() and not os.environ.get("NO_COLOR") and os.environ.get("TERM") != "dumb"
+
+
+BOLD, RED, GREEN = "\033[1m", "\033[31m", "\033[32m"
+COLOURS = (
+    (re.compile(r"(?m)^(\S.*?:\d+:\d+:)(?= )"), BOLD), (re.compile(r"(?m)^ +(\^~*)$"), RED),
+    (re.compile(r"(?m)^(no faults.*; status 0)$"), GREEN), (re.compile(r"(?m)^(.*; status 1)$"), RED),
+    (re.compile(r"(?m)^((?:missing|not read|other faults|cycles): [\d,]+)$"), RED),
+)
+
+
+def coloured(data):
+    """Lines of a check with colours: places bold, carets and what is wrong red."""
+    text = data.decode("utf-8")
+    for pattern, colour in COLOURS:
+        text = pattern.sub(lambda found, colour=colour: found[0].replace(found[1], f"{colour}{found[1]}\033[0m", 1), text)
+    return text.encode("utf-8")
 
 
 def say(who, text):

@@ -1,6 +1,7 @@
 """./joravelsu's forms: JSON, SARIF, annotations, imports, diff, the file of options, versions, man page and completions."""
 import json
 import os
+import pty
 import re
 import shutil
 import subprocess
@@ -11,7 +12,7 @@ import unittest
 TOOLS = os.path.dirname(os.path.dirname(os.path.abspath(__file__)))
 ROOT = os.path.dirname(TOOLS)
 sys.path.insert(0, TOOLS)
-from parts import compare, config, kit, usage, verdict  # noqa: E402
+from parts import compare, config, kit, usage, verdict, words  # noqa: E402
 from tests.test_graph_tools import REPORT, faults_of  # noqa: E402
 
 JORAVELSU = os.path.join(ROOT, "joravelsu")
@@ -73,6 +74,26 @@ class Check(unittest.TestCase):
             self.assertEqual(ran("check", "--json", "-o", path, DEMO)[:2], (1, ""))
             with open(path, encoding="utf-8") as file:
                 self.assertEqual(json.load(file)["format"], "joravelsu-check")
+
+
+class Colours(unittest.TestCase):
+    def test_coloured(self):
+        text = "a.ts:1:2: b\n    x = y\n      ^~\n\nmissing: 1\ncycles: none\n1 fault; status 1\n"
+        self.assertEqual(words.coloured(text.encode()).decode(), "\x1b[1ma.ts:1:2:\x1b[0m b\n    x = y\n      \x1b[31m^~\x1b[0m\n\n\x1b[31mmissing: 1\x1b[0m\ncycles: none\n\x1b[31m1 fault; status 1\x1b[0m\n")
+        self.assertEqual(words.coloured(b"no faults; status 0\n"), b"\x1b[32mno faults; status 0\x1b[0m\n")
+
+    def test_on_a_terminal_alone(self):
+        for value, wanted in (("", True), ("1", False)):
+            try:
+                ours, theirs = pty.openpty()
+            except OSError:
+                self.skipTest("this system gives no terminal")
+            subprocess.run([JORAVELSU, "check", "examples/projects/demo/src/pages/home.ts"], stdout=theirs, stderr=subprocess.DEVNULL, cwd=ROOT, check=False,
+                           env={**os.environ, "JORAVELSU_QUIET": "1", "NO_COLOR": value, "TERM": "xterm"})
+            os.close(theirs)
+            said = os.read(ours, 65_536)
+            os.close(ours)
+            self.assertEqual(b"\x1b[32m" in said, wanted)
 
 
 class Imports(unittest.TestCase):
