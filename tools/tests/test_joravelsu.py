@@ -12,7 +12,7 @@ import unittest
 TOOLS = os.path.dirname(os.path.dirname(os.path.abspath(__file__)))
 ROOT = os.path.dirname(TOOLS)
 sys.path.insert(0, TOOLS)
-from parts import compare, config, kit, usage, verdict, words  # noqa: E402
+from parts import compare, config, kit, report, usage, verdict, why, words  # noqa: E402
 from tests.test_graph_tools import REPORT, faults_of  # noqa: E402
 
 JORAVELSU = os.path.join(ROOT, "joravelsu")
@@ -120,6 +120,33 @@ class Imports(unittest.TestCase):
         self.assertTrue(ran("imports", DEMO)[1].startswith(DEMO + ":1:"))
 
 
+class Why(unittest.TestCase):
+    def test_a_way(self):
+        status, out, _ = ran("why", "examples/projects/demo/src/pages/home.ts", DEMO)
+        self.assertEqual((status, out.splitlines()), (0, [
+            f"{DEMO}: a root", f'{DEMO}:4:23: import "./app" -> examples/projects/demo/src/app.ts', 'examples/projects/demo/src/app.ts:1:22: import "./pages" -> examples/projects/demo/src/pages/index.ts',
+            'examples/projects/demo/src/pages/index.ts:1:22: export "./home" -> examples/projects/demo/src/pages/home.ts',
+            "without it 1 other entry would be gone:", "  examples/projects/demo/node_modules/old-format/index.js"]))
+
+    def test_names(self):
+        for name in ("src/store.ts", "file:///src/store.ts", "./examples/projects/demo/src/store.ts"):
+            self.assertEqual(json.loads(ran("why", "--json", name, DEMO)[1])["entry"], "file:///src/store.ts")
+        self.assertEqual(json.loads(ran("why", "--json", "tiny-events", DEMO)[1])["entry"], "file:///node_modules/tiny-events/dist/index.js")
+        status, out, errors = ran("why", "none", DEMO)
+        self.assertEqual((status, out, errors.splitlines()[-1]), (2, "", "joravelsu: none: not in the graph"))
+
+    def test_by_hand(self):
+        """A diamond with a tail and a redirect: the shortest way, and what hangs on each."""
+        lines = ["root file:///a", "file:///a module TypeScript 1", '  import 0-1 "b" - -> file:///b', '  import 2-3 "c" - -> file:///c', "file:///b module TypeScript 1", '  import 0-1 "d" - -> file:///d',
+                 "file:///c module TypeScript 1", '  import 0-1 "b" - -> file:///b', "file:///d redirect file:///e", "file:///e module TypeScript 1", "entries 5", ""]
+        graph = report.graph_of("\n".join(lines).encode())
+        rows = [("a", [], ["b", "c", "d", "e"]), ("b", ["a"], ["d", "e"]), ("c", ["a"], []), ("d", ["a", "b"], ["e"]), ("e", ["a", "b", "d"], [])]
+        for name, way, alone in rows:
+            found = why.Reason(graph, graph.entries["file:///" + name])
+            self.assertEqual([before.specifier for before, _ in found.way], ["file:///" + it for it in way], name)
+            self.assertEqual(found.alone, ["file:///" + it for it in alone], name)
+
+
 class Diff(unittest.TestCase):
     def setUp(self):
         room = tempfile.TemporaryDirectory()
@@ -212,7 +239,7 @@ class Usage(unittest.TestCase):
             self.assertRegex(done.stdout, rf"^{re.escape(os.path.basename(words[0]))} {re.escape(kit.VERSION)} \(.*program.*\)\n$")
 
     def test_each_command_has_help(self):
-        for name in ("check", "graph", "unread", "imports", "diff", "man", "completions"):
+        for name in ("check", "graph", "unread", "why", "imports", "diff", "man", "completions"):
             status, out, errors = ran(name, "--help")
             self.assertEqual((status, errors), (0, ""), name)
             self.assertIn(f"usage: joravelsu {name} ", out)
