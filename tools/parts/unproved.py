@@ -321,9 +321,21 @@ fn call_each(rt: &HostRuntime) {
     let _ = joravelsu_exports(rt.alloc(), b"", 3, 0, &mut [], &mut [], &mut exported);
 }
 """
-# Behind this line of the program the calls are made.
+# Behind this line of the program the calls are made; where it has none, at the front of its main.
 BEHIND = "    let words: Vec<String> = words;\n"
 NEVER = "    if words.as_slice().len() == 4_000_000_000 {\n        call_each(&rt);\n    }\n"
+MAIN = re.compile(r"(?m)^fn main\(rt: HostRuntime\)[^{]*\{\n")
+NEVER_IN_MAIN = "    if is_never() {\n        call_each(&rt);\n    }\n"
+IS_NEVER = "fn is_never() -> bool {\n    false\n}\n"
+
+
+def with_calls(main):
+    """The program's main with the library's calls, where they are never made."""
+    if BEHIND in main:
+        return main.replace(BEHIND, BEHIND + NEVER, 1)
+    if not MAIN.search(main):
+        raise Unable(f"{PROGRAM} has no place for the library's calls")
+    return MAIN.sub(lambda found: found[0] + NEVER_IN_MAIN, main, count=1) + IS_NEVER
 
 
 def source(crate, name):
@@ -338,9 +350,7 @@ def joined_sources(room):
     for crate in below:
         shutil.copytree(os.path.join(kits.ROOT, "crates", crate, "src"), os.path.join(root, "crates", crate, "src"))
     at = os.path.join(root, "crates", LIBRARY, "src")
-    main = source(PROGRAM, "main.rt").replace("#![tactic(auto)]\n", "").replace(BEHIND, BEHIND + NEVER)
-    if NEVER not in main:
-        raise Unable(f"{PROGRAM} has no place for the library's calls")
+    main = with_calls(source(PROGRAM, "main.rt").replace("#![tactic(auto)]\n", ""))
     main = re.sub(r"(?m)^//!.*\n", "", main).replace("#[cfg(test)]\nmod tests;\n", "")
     with open(os.path.join(at, "main.rt"), "w", encoding="utf-8") as file:
         file.write(source(LIBRARY, "lib.rt") + CALLS + main)

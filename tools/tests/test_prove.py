@@ -98,6 +98,8 @@ class Joined(unittest.TestCase):
             with open(os.path.join(root, "crates", unproved.LIBRARY, "src", "main.rt"), encoding="utf-8") as file:
                 text = file.read()
             self.assertEqual((text.count("call_each(&rt);"), text.count("fn main("), text.count("#![tactic")), (1, 1, 1))
+            other = unproved.with_calls("fn main(rt: HostRuntime) -> ExitCode {\n    go(&rt)\n}\n")
+            self.assertEqual((other.count("call_each(&rt);"), other.count("fn is_never()")), (1, 1))
             library = unproved.source(unproved.LIBRARY, "lib.rt")
             for name in re.findall(r'extern "C" fn (joravelsu_\w+)', library):
                 self.assertIn(f" = {name}(", unproved.CALLS)
