@@ -273,13 +273,20 @@ class Packer:
         while ahead and size <= MOST_BYTES:
             place = ahead.pop()
             for value in sites.hints_in(self.contents[place].get("text", "")) if sites.is_source(place) else ():
-                found = self.resolver.lead(place, sites.Site("import", value)).place
+                found = self.likely(place, value)
                 if found and found not in self.sites and self.why_left_out(found) is None and self.may_load(found):
                     self.sites[found] = ()
                     size += self.sizes[found]
                     unread.append(found)
                     ahead.append(found)
         self.sites.update(self.reader.read({place: self.contents[place] for place in unread}))
+
+    def likely(self, place, value):
+        """The file that a text in a file likely names; what is wrong with it counts only where the program says that it is an import."""
+        try:
+            return self.resolver.lead(place, sites.Site("import", value)).place
+        except Wrong:
+            return None
 
     def may_load(self, place):
         try:

@@ -355,7 +355,9 @@ def joined_sources(room):
     with open(os.path.join(at, "main.rt"), "w", encoding="utf-8") as file:
         file.write(source(LIBRARY, "lib.rt") + CALLS + main)
     os.unlink(os.path.join(at, "lib.rt"))
-    shutil.copy(os.path.join(kits.ROOT, "crates", PROGRAM, "src", "adapters.rt"), at)
+    for name in os.listdir(os.path.join(kits.ROOT, "crates", PROGRAM, "src")):
+        if name not in ("main.rt", "tests.rt") and not os.path.exists(os.path.join(at, name)):
+            shutil.copy(os.path.join(kits.ROOT, "crates", PROGRAM, "src", name), at)
     with open(os.path.join(kits.ROOT, "crates.txt"), encoding="utf-8") as file:
         rows = [line for line in file if line.split(":")[0].split()[:1] and line.split(":")[0].split()[0] in below - {LIBRARY}]
     names = [name for name in dict.fromkeys(listed[LIBRARY] + listed[PROGRAM]) if name != "staticlib"]
