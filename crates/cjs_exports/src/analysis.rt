@@ -54,7 +54,7 @@ fn found_at(
 /// What is found in a program.
 #[tactic(auto, unfolding(es_program::specs::Typed::program_at))]
 fn found_of_program(alloc: Global, program: &Program) -> Result<Found, AllocError>
-    ensures { IfOk result (λ found. found ≡ found_in (facts_of program.now)) }
+    ensures { IfOk result (λ found. found ≡ found_in (facts_of program.now.typed)) }
 {
     let (text, tokens, parts) = program.parts();
     match parts.part(0) {
@@ -69,7 +69,7 @@ pub fn analyze_cjs(
     alloc: Global,
     program: &Program,
 ) -> Result<ModuleExportsAndReExports, AllocError>
-    ensures { IfOk result (λ it. AreExports program.now it.exports it.reexports) }
+    ensures { IfOk result (λ it. AreExports program.now.typed it.exports it.reexports) }
 {
     let found = found_of_program(alloc, program)?;
     let (exports, reexports) = export_names(alloc, found)?;

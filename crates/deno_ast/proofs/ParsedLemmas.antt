@@ -4,6 +4,7 @@ use Rattle.std.specs.Prelude.{Result, IfOk}
 use Rattle.std.proofs.lemmas.Result.{IfOk-weaker}
 use Rattle.grammar_theory.specs.declared.error.Mode.{Mode}
 use Rattle.es_ast.specs.declared.ast.Program.{Program}
+use Rattle.es_program.specs.Owned.{Owned}
 use Rattle.deno_ast.specs.declared.params.ParseParams.{ParseParams}
 use Rattle.deno_ast.specs.declared.reading.Reading.{Reading}
 use Rattle.deno_ast.specs.Parsed.{Parsed}
@@ -12,8 +13,8 @@ use Rattle.deno_ast.specs.Source.{IsParsed, IsParsedWith}
 use Rattle.deno_ast.specs.Scopes.{AreScoped}
 use Rattle.deno_ast.specs.Steps.{with_text, parsed_of, IsReading}
 
-module _ (P : Program → Program → Type 0) (modes : List Mode) (params : ParseParams) (text : List ℕ) (r : Reading)
-    (kept : Program) where
+module _ (P : Owned Program → Owned Program → Type 0) (modes : List Mode) (params : ParseParams) (text : List ℕ)
+    (r : Reading) (kept : Owned Program) where
   -- a text in the place of the parameters' own
   parsed_of_text : (s : Parsed) → IsReading modes (with_text params text) r → P r.program kept
       → s ≡ parsed_of (with_text params text) (record r { program = kept }) s.comments s.scopes
@@ -31,10 +32,11 @@ module _ (P : Program → Program → Type 0) (modes : List Mode) (params : Pars
       is_tree = read.is_tree;
       refers = ap (λ (x : Parsed). x.references) same;
     };
+    own = read.own;
     kept = subst (P r.program) (sym (ap (λ (x : Parsed). x.tree) same)) of;
     comments_are = placed;
     tokens_are = ap (λ (x : Parsed). x.tokens) same;
-    scopes_are = subst (λ (p : Program). AreScoped params.scope_analysis p s.scopes)
+    scopes_are = subst (λ (p : Owned Program). AreScoped params.scope_analysis p s.scopes)
         (sym (ap (λ (x : Parsed). x.tree) same)) scoped;
   }
 
@@ -59,8 +61,8 @@ parsed_here modes p r s read same placed scoped =
     parsed_with (λ tree kept. kept ≡ tree) modes p p.text r r.program p s refl read refl same placed scoped
 
 -- the same in modes that are those given
-pub parsed_in : (P : Program → Program → Type 0) (given modes : List Mode) (params p : ParseParams) (text : List ℕ)
-    (r : Reading) (made : Program) (s : Parsed) → modes ≡ given → p ≡ with_text params text → IsReading modes p r
+pub parsed_in : (P : Owned Program → Owned Program → Type 0) (given modes : List Mode) (params p : ParseParams) (text : List ℕ)
+    (r : Reading) (made : Owned Program) (s : Parsed) → modes ≡ given → p ≡ with_text params text → IsReading modes p r
     → P r.program made → s ≡ parsed_of p (record r { program = made }) s.comments s.scopes
     → ArePlaced p.text r.tokens r.comments s.comments → AreScoped p.scope_analysis made s.scopes
     → IsParsedWith P given params text s
@@ -77,6 +79,7 @@ module _ (modes : List Mode) (params : ParseParams) (text : List ℕ) where
     text_is = is.text_is;
     tree = is.tree;
     read = is.read;
+    own = is.own;
     kept = is.kept;
     comments_are = is.comments_are;
     tokens_are = is.tokens_are;

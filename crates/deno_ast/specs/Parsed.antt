@@ -12,6 +12,7 @@ use Rattle.es_comments.specs.Placed.{Placed, comments_at}
 use Rattle.media_type.specs.declared.media_type.MediaType.{MediaType}
 use Rattle.media_type.specs.MediaType.{is_typed}
 use Rattle.es_ast.specs.declared.ast.ModuleItem.{ModuleItem}
+use Rattle.es_program.specs.Owned.{Owned}
 use Rattle.es_program.specs.items.Spans.{span_of_lent}
 use Rattle.deno_ast.specs.Refs.{is_script_by_items, shebang_of, items_of}
 
@@ -21,7 +22,7 @@ pub record Parsed : Type 0 where
   pub specifier : Parts
   pub media_type : MediaType
   pub text : List ℕ
-  pub tree : Program
+  pub tree : Owned Program
   pub references : List Site
   pub comments : Placed
   pub tokens : Option (List Token)
@@ -33,7 +34,7 @@ with_scopes s scopes = record s { scopes = scopes }
 
 -- its sites: reference comments come first, then those of its tree
 abbrev pub parsed_sites : Parsed → List Site
-parsed_sites s = s.references ++ sites_of s.tree
+parsed_sites s = s.references ++ sites_of s.tree.typed
 
 abbrev pub is_script : Program → Bool
 is_script (Module m) = false
@@ -41,7 +42,7 @@ is_script (Script s) = true
 
 -- whether it is one of CommonJS: of a typed source its items tell
 abbrev pub computed_is_script : Parsed → Bool
-computed_is_script s = if is_typed s.media_type then is_script_by_items s.tree else is_script s.tree
+computed_is_script s = if is_typed s.media_type then is_script_by_items s.tree.typed else is_script s.tree.typed
 
 -- the comments at the first item; with no item, those behind the shebang, whose text stands behind `#!`, or those at 0
 abbrev pub leading_by : Placed → Option ModuleItem → Option (List ℕ) → Option (List Comment)
@@ -51,4 +52,4 @@ leading_by placed None None = comments_at placed.leading 0
 
 -- the leading comments of a source
 abbrev pub leading_comments : Parsed → Option (List Comment)
-leading_comments s = leading_by s.comments (slice_get (items_of s.tree) 0) (shebang_of s.tree)
+leading_comments s = leading_by s.comments (slice_get (items_of s.tree.typed) 0) (shebang_of s.tree.typed)

@@ -5,14 +5,15 @@ use Rattle.es_ast.specs.declared.ast.Program.{Program}
 use Rattle.es_ast.specs.declared.ast.Program.TheVariants as program
 use Rattle.es_ast.specs.declared.ast.ModuleItem.{ModuleItem}
 use Rattle.es_ast.specs.declared.ast.ModuleItem.TheVariants as vItem
+use Rattle.es_program.specs.Owned.{Owned, of_module, of_script}
 use Rattle.es_program.specs.items.Told.{tells_script}
 use Rattle.deno_ast.specs.declared.program_ref.ProgramRef.{ProgramRef}
 use Rattle.deno_ast.specs.declared.program_ref.ProgramRef.TheVariants.{Module, Script}
 
 -- the program itself
-abbrev pub tree_of : ProgramRef → Program
-tree_of (Module m) = program.Module m.now
-tree_of (Script s) = program.Script s.now
+abbrev pub tree_of : ProgramRef → Owned Program
+tree_of (Module m) = of_module m.now
+tree_of (Script s) = of_script s.now
 
 abbrev pub IsModule : Program → Type 0
 IsModule (program.Module m) = Unit {0}

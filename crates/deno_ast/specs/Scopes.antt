@@ -1,11 +1,8 @@
 -- Scope numbers of a program, and what it declares.
 use Rattle.std.specs.Prelude.{◌≡◌, ℕ, Bool, true, false, List, Option, Some, None, slice_get}
-use Rattle.es_token.specs.declared.token.Token.{Token}
-use Rattle.es_lexer.specs.Reads.{ReadsTokens}
 use Rattle.es_ast.specs.declared.ast.Program.{Program}
-use Rattle.es_syntax.specs.declared.entry.Entry.{Entry}
 use Rattle.es_syntax.specs.Trees.{first_tree, trees}
-use Rattle.es_program.specs.Typed.{program_at}
+use Rattle.es_program.specs.Owned.{Owned}
 use Rattle.es_scopes.specs.Numbers.{ids}
 use Rattle.es_variables.specs.scope_analysis.Scope.{declared}
 use Rattle.es_variables.specs.declared.scope.Scope.{Scope}
@@ -13,36 +10,24 @@ use Rattle.es_variables.specs.declared.ident.Ident.{Ident}
 use Rattle.es_variables.specs.Numbers.{AreNumbers}
 use Rattle.es_variables.specs.Kept.{Keeps, Names}
 
--- a text, its tokens, and a row of entries that is the program over them
-pub record Parts (p : Program) : Type 0 where
-  pub text : List ℕ
-  pub tokens : List Token
-  pub entries : List Entry
-  pub reads : ReadsTokens text tokens
-  pub typed : program_at text tokens entries ≡ Some p
-
 -- these are the numbers of the program's names, by their tokens
-pub record AreIds (p : Program) (numbers : List ℕ) : Type 0 where
-  pub parts : Parts p
-  pub are : AreNumbers numbers (ids parts.text parts.tokens (first_tree (trees parts.entries)))
+pub record AreIds (p : Owned Program) (numbers : List ℕ) : Type 0 where
+  pub are : AreNumbers numbers (ids p.text p.tokens (first_tree (trees p.entries)))
 
 -- this is what the program declares
-pub record Declares (p : Program) (scope : Scope) : Type 0 where
-  pub parts : Parts p
-  pub keeps : Keeps scope (declared parts.text parts.tokens (first_tree (trees parts.entries)))
+pub record Declares (p : Owned Program) (scope : Scope) : Type 0 where
+  pub keeps : Keeps scope (declared p.text p.tokens (first_tree (trees p.entries)))
 
--- the name that the token of this number is, by these numbers
-pub record NamesIn (p : Program) (numbers : List ℕ) (at : ℕ) (it : Ident) : Type 0 where
-  pub parts : Parts p
-  pub names : Names parts.text parts.tokens numbers at it
+-- the name that the program's token of this number is, by these numbers
+pub record NamesIn (p : Owned Program) (numbers : List ℕ) (at : ℕ) (it : Ident) : Type 0 where
+  pub names : Names p.text p.tokens numbers at it
 
--- there is no token of this number
-pub record HasNoToken (p : Program) (at : ℕ) : Type 0 where
-  pub parts : Parts p
-  pub none : slice_get parts.tokens at ≡ None
+-- the program has no token of this number
+pub record HasNoToken (p : Owned Program) (at : ℕ) : Type 0 where
+  pub none : slice_get p.tokens at ≡ None
 
 -- the numbers are there where scopes were to be analysed
-abbrev pub AreScoped : Bool → Program → Option (List ℕ) → Type 0
+abbrev pub AreScoped : Bool → Owned Program → Option (List ℕ) → Type 0
 AreScoped true p (Some numbers) = AreIds p numbers
 AreScoped false p None = Unit {0}
 AreScoped _ p _ = ⊥

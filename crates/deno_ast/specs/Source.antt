@@ -10,6 +10,8 @@ use Rattle.es_ast.specs.declared.ast.Program.{Program}
 use Rattle.es_ast.specs.declared.ast.Program.TheVariants as program
 use Rattle.es_ast.specs.declared.ast.Module.{Module}
 use Rattle.es_ast.specs.declared.ast.Script.{Script}
+use Rattle.es_program.specs.Owned.{Owned, as_typed, of_module, of_script}
+use Rattle.es_parser.specs.Answers.{IsOwn}
 use Rattle.media_type.specs.declared.media_type.MediaType.{MediaType}
 use Rattle.parse_diagnostic.specs.Diagnosis.{Diagnosis}
 use Rattle.deno_ast.specs.declared.syntax.Syntax.{Syntax}
@@ -38,15 +40,17 @@ lang_for params = lang_in params.maybe_syntax params.media_type
 abbrev pub captured : Bool → List Token → Option (List Token)
 captured capture tokens = if capture then Some tokens else None
 
--- a source of this text, read in one of these modes; its comments stand at their places, and its tokens are kept where
--- that was asked for, and so are the scope numbers of the kept tree; P tells of the tree that was read and that one
-pub record IsParsedWith (P : Program → Program → Type 0) (modes : List Mode) (params : ParseParams) (text : List ℕ)
+-- a source of this text, read in one of these modes: the tree that was read is that of its text and its tokens; P tells of
+-- this tree and the one that is kept; the comments stand at their places, and the tokens are kept where that was asked
+-- for, and so are the scope numbers of the kept tree
+pub record IsParsedWith (P : Owned Program → Owned Program → Type 0) (modes : List Mode) (params : ParseParams) (text : List ℕ)
     (s : Parsed) : Type 0 where
   pub specifier : s.specifier ≡ params.specifier
   pub media_type : s.media_type ≡ params.media_type
   pub text_is : s.text ≡ text
-  pub tree : Program
-  pub read : IsRead (lang_for params) modes params.media_type text tree s.references
+  pub tree : Owned Program
+  pub read : IsRead (lang_for params) modes params.media_type text tree.typed s.references
+  pub own : IsOwn (lang_for params) text read.tokens tree
   pub kept : P tree s.tree
   pub comments_are : ArePlaced text read.tokens read.comments s.comments
   pub tokens_are : s.tokens ≡ captured params.capture_tokens read.tokens
@@ -57,14 +61,20 @@ abbrev pub IsParsed : List Mode → ParseParams → List ℕ → Parsed → Type
 IsParsed modes params text s = IsParsedWith (λ tree kept. kept ≡ tree) modes params text s
 
 -- what is kept of a module is what P tells
-abbrev pub OfModule : (Module → Module → Type 0) → Program → Program → Type 0
-OfModule P (program.Module m) kept = (other : Module) × (kept ≡ program.Module other) × P m other
-OfModule P (program.Script s) kept = kept ≡ program.Script s
+abbrev pub of_module_by : (Owned Module → Owned Module → Type 0) → Owned Program → Owned Program → Program → Type 0
+of_module_by P read kept (program.Module m) = (other : Owned Module) × (kept ≡ of_module other) × P (as_typed read m) other
+of_module_by P read kept (program.Script s) = kept ≡ read
+
+abbrev pub OfModule : (Owned Module → Owned Module → Type 0) → Owned Program → Owned Program → Type 0
+OfModule P read kept = of_module_by P read kept read.typed
 
 -- what is kept of a script is what P tells
-abbrev pub OfScript : (Script → Script → Type 0) → Program → Program → Type 0
-OfScript P (program.Script s) kept = (other : Script) × (kept ≡ program.Script other) × P s other
-OfScript P (program.Module m) kept = kept ≡ program.Module m
+abbrev pub of_script_by : (Owned Script → Owned Script → Type 0) → Owned Program → Owned Program → Program → Type 0
+of_script_by P read kept (program.Script s) = (other : Owned Script) × (kept ≡ of_script other) × P (as_typed read s) other
+of_script_by P read kept (program.Module m) = kept ≡ read
+
+abbrev pub OfScript : (Owned Script → Owned Script → Type 0) → Owned Program → Owned Program → Type 0
+OfScript P read kept = of_script_by P read kept read.typed
 
 -- why a source of this text isn't read in any of these modes
 abbrev pub IsFault : List Mode → ParseParams → List ℕ → Diagnosis → Type 0

@@ -8,6 +8,7 @@ use Rattle.es_comments.specs.Placed.{Placed}
 use Rattle.grammar_theory.specs.declared.error.Mode.{Mode}
 use Rattle.deno_ast.specs.declared.params.ParseParams.{ParseParams}
 use Rattle.deno_ast.specs.declared.reading.Reading.{Reading}
+use Rattle.es_parser.specs.Answers.{IsOwn}
 use Rattle.source_reading.specs.Tree.{IsFirstTree}
 use Rattle.source_reading.specs.Read.{references_in}
 use Rattle.deno_ast.specs.Parsed.{Parsed}
@@ -27,7 +28,8 @@ with_text p text = record {
 -- the text of the parameters was read so
 pub record IsReading (modes : List Mode) (params : ParseParams) (r : Reading) : Type 0 where
   pub reads : Reads params.text r.tokens r.comments
-  pub is_tree : IsFirstTree (lang_for params) params.text r.tokens modes r.program
+  pub is_tree : IsFirstTree (lang_for params) params.text r.tokens modes r.program.typed
+  pub own : IsOwn (lang_for params) params.text r.tokens r.program
 
 -- the source of what was read, with the comments at these places, and these scope numbers
 abbrev pub parsed_of : ParseParams → Reading → Placed → Option (List ℕ) → Parsed

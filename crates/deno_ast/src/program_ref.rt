@@ -4,7 +4,7 @@ ghost use Rattle.std.specs.Option.{option_map};
 ghost use Rattle.std.specs.List.{slice_get};
 ghost use Rattle.es_lexer.specs.Reads.{ReadsTokens};
 ghost use Rattle.es_program.specs.Typed.{program_at};
-ghost use Rattle.es_ast.specs.declared.ast.Program.TheVariants as program;
+ghost use Rattle.es_program.specs.Owned.{of_module, of_script};
 ghost use Rattle.es_program.specs.items.Lent.{lent_item, items_left};
 ghost use Rattle.deno_ast.specs.Refs as spec;
 ghost use Rattle.deno_ast.specs.Refs.{tree_of, IsModule, IsScript};
@@ -15,6 +15,7 @@ use es_program::{Form, Module, Program, Script};
 use es_syntax::Siblings;
 use es_token::Token;
 use std::alloc::AllocError;
+use std::fmt;
 
 /// A program that is lent.
 #[derive(Clone, Copy)]
@@ -36,7 +37,7 @@ impl<'a> ProgramRef<'a> {
     /// Whether the program is a script, or a module whose first item that tells is `import a = ..` or `export = a`.
     /// Any other import or export tells that it is none; `export as namespace a` tells nothing.
     pub fn compute_is_script(self) -> bool
-        ensures { result ≡ spec.is_script_by_items (tree_of self.entry) }
+        ensures { result ≡ spec.is_script_by_items (tree_of self.entry).typed }
     {
         match self {
             ProgramRef::Module(module) => tells_script(&module_body(module)),
@@ -45,8 +46,8 @@ impl<'a> ProgramRef<'a> {
     }
 
     pub fn unwrap_module(self) -> &'a Module
-        requires { IsModule (tree_of self) }
-        ensures { program.Module result.now ≡ tree_of self.entry }
+        requires { IsModule (tree_of self).typed }
+        ensures { of_module result.now ≡ tree_of self.entry }
     {
         match self {
             ProgramRef::Module(module) => module,
@@ -55,8 +56,8 @@ impl<'a> ProgramRef<'a> {
     }
 
     pub fn unwrap_script(self) -> &'a Script
-        requires { IsScript (tree_of self) }
-        ensures { program.Script result.now ≡ tree_of self.entry }
+        requires { IsScript (tree_of self).typed }
+        ensures { of_script result.now ≡ tree_of self.entry }
     {
         match self {
             ProgramRef::Module(_) => unreachable!(),
@@ -66,8 +67,8 @@ impl<'a> ProgramRef<'a> {
 
     /// The text behind `#!`.
     pub fn shebang(self) -> Option<&'a str>
-        ensures { MatchOption result (spec.shebang_of (tree_of self.entry) ≡ None)
-            (λ text. spec.shebang_of (tree_of self.entry) ≡ Some text.now) }
+        ensures { MatchOption result (spec.shebang_of (tree_of self.entry).typed ≡ None)
+            (λ text. spec.shebang_of (tree_of self.entry).typed ≡ Some text.now) }
     {
         match self {
             ProgramRef::Module(module) => module.shebang(),
@@ -77,7 +78,7 @@ impl<'a> ProgramRef<'a> {
 
     /// The first item, where there is one.
     pub fn first_item(self) -> Option<ModuleItemRef<'a>>
-        ensures { option_map lent_item result ≡ slice_get (spec.items_of (tree_of self.entry)) 0 }
+        ensures { option_map lent_item result ≡ slice_get (spec.items_of (tree_of self.entry).typed) 0 }
     {
         match first_item(&self.body()) {
             Some((item, _)) => Some(item),
@@ -85,10 +86,13 @@ impl<'a> ProgramRef<'a> {
         }
     }
 
-    /// Its text, its tokens and its parts.
+    /// Its text, its tokens and its row of entries.
     pub fn parts(self) -> (&'a str, &'a [Token], Siblings<'a>)
         ensures reads { ReadsTokens result.0.now result.1.now }
-        ensures typed { program_at result.0.now result.1.now result.2.entries.now ≡ Some (tree_of self.entry) }
+        ensures text { result.0.now ≡ (tree_of self.entry).text }
+        ensures tokens { result.1.now ≡ (tree_of self.entry).tokens }
+        ensures entries { result.2.entries.now ≡ (tree_of self.entry).entries }
+        ensures typed { program_at result.0.now result.1.now result.2.entries.now ≡ Some (tree_of self.entry).typed }
     {
         match self {
             ProgramRef::Module(module) => module.parts(),
@@ -98,7 +102,7 @@ impl<'a> ProgramRef<'a> {
 
     /// The items, one by one.
     pub fn body(self) -> Body<'a>
-        ensures { items_left result ≡ spec.items_of (tree_of self.entry) }
+        ensures { items_left result ≡ spec.items_of (tree_of self.entry).typed }
     {
         match self {
             ProgramRef::Module(module) => module_body(module),
@@ -117,7 +121,7 @@ impl<'a> ProgramRef<'a> {
     }
 
     pub fn span(self) -> Range
-        ensures { result ≡ spec.span_of (tree_of self.entry) }
+        ensures { result ≡ spec.span_of (tree_of self.entry).typed }
     {
         match self {
             ProgramRef::Module(module) => module.span(),
@@ -131,5 +135,14 @@ impl<'a> From<&'a Program> for ProgramRef<'a> {
 
     fn from(program: &'a Program) -> ProgramRef<'a> {
         ProgramRef::of(program)
+    }
+}
+
+impl fmt::Debug for ProgramRef<'_> {
+    fn fmt<W: fmt::Write>(&self, f: &mut fmt::Formatter<W>) -> fmt::Result {
+        f.write_str(match self {
+            ProgramRef::Module(_) => "Module",
+            ProgramRef::Script(_) => "Script",
+        })
     }
 }

@@ -3,7 +3,7 @@ ghost use Rattle.std.specs.Prelude.{IfOk};
 ghost use Rattle.std.specs.Result.{IfErr};
 ghost use Rattle.es_lexer.specs.Reads.{Reads, ReadsTokens};
 ghost use Rattle.es_ast.specs.declared.ast.Program.{Program as Typed};
-ghost use Rattle.es_parser.specs.Answers.{GivesTree};
+ghost use Rattle.es_parser.specs.Answers.{GivesTree, IsOwn};
 ghost use Rattle.source_reading.specs.Tree.{IsFirstTree};
 ghost use Rattle.source_reading.specs.Fault.{Refuses};
 ghost use Rattle.source_sites.specs.Modes.{modes_in};
@@ -94,7 +94,8 @@ fn tree_of(
     tokens: &SharedTokens,
 ) -> Result<Program, SyntaxError>
     requires { ReadsTokens params.now.text tokens.now }
-    ensures made { IfOk result (IsFirstTree (lang_for params.now) params.now.text tokens.now (modes_in modes)) }
+    ensures made { IfOk result (λ p. IsFirstTree (lang_for params.now) params.now.text tokens.now (modes_in modes) p.typed) }
+    ensures own { IfOk result (IsOwn (lang_for params.now) params.now.text tokens.now) }
     ensures only { (tree : Typed) → IsFirstTree (lang_for params.now) params.now.text tokens.now (modes_in modes) tree
         → GivesTree result tree }
 {

@@ -29,6 +29,7 @@ use media_type::MediaType;
 use source_sites::{references_in, with_sites};
 use source_text::{SourceText, SourceTextInfo};
 use std::alloc::{AllocError, Global};
+use std::fmt;
 use std::marker::Model;
 use std::sync::Arc;
 use url::Url;
@@ -62,12 +63,13 @@ impl Model for ParsedSource {
     ghost use Rattle.std.specs.Coded.{codes};
     ghost use Rattle.es_ast.specs.contracts.ast.ModuleItem as module_item;
     ghost use Rattle.es_ast.specs.contracts.ast.Stmt as stmt;
+    ghost use Rattle.es_syntax.specs.contracts.entry.Entry as entry;
     ghost use Rattle.deno_ast.specs.Parsed.{Parsed};
     ghost use Rattle.deno_ast.specs.Kept.{parsed};
 
     ghost Value = { Parsed };
 
-    ghost coded = { Prim.hlevel (codes, module_item.the_row.coded, stmt.the_row.coded) };
+    ghost coded = { Prim.hlevel (codes, module_item.the_row.coded, stmt.the_row.coded, entry.the_row.coded) };
 
     ghost view = { λ s. parsed (arc_value s.inner) s.scopes };
 
@@ -219,13 +221,13 @@ impl ParsedSource {
     }
 
     pub fn is_module(&self) -> bool
-        ensures { result ≡ not (spec.is_script self.now.tree) }
+        ensures { result ≡ not (spec.is_script self.now.tree.typed) }
     {
         !self.is_script()
     }
 
     pub fn is_script(&self) -> bool
-        ensures { result ≡ spec.is_script self.now.tree }
+        ensures { result ≡ spec.is_script self.now.tree.typed }
     {
         matches!(self.inner.program.form(), Form::Script(_))
     }
@@ -252,7 +254,7 @@ impl ParsedSource {
     /// The names that the source exports as a module of CommonJS, and the modules whose names it exports again: both
     /// ascending by bytes, each once, without getters that may do something. A module of ECMAScript is read in the same way.
     pub fn analyze_cjs(&self, alloc: Global) -> Result<CjsAnalysis, AllocError>
-        ensures { IfOk result (λ it. AreExports self.now.tree it.exports it.reexports) }
+        ensures { IfOk result (λ it. AreExports self.now.tree.typed it.exports it.reexports) }
     {
         analyze_cjs(alloc, &self.inner.program)
     }
@@ -263,8 +265,8 @@ impl ParsedSource {
         &self,
         alloc: Global,
     ) -> Result<ModuleExportsAndReExports, AllocError>
-        ensures exports { IfOk result (λ it. it.exports ≡ exports_of self.now.tree) }
-        ensures reexports { IfOk result (λ it. it.reexports ≡ reexports_of self.now.tree) }
+        ensures exports { IfOk result (λ it. it.exports ≡ exports_of self.now.tree.typed) }
+        ensures reexports { IfOk result (λ it. it.reexports ≡ reexports_of self.now.tree.typed) }
     {
         analyze_es_runtime_exports(alloc, &self.inner.program)
     }
@@ -277,6 +279,15 @@ impl ParsedSource {
             inner: self.inner.clone()?,
             scopes: copy_ids(&self.scopes)?,
         })
+    }
+}
+
+/// Its specifier and its text.
+impl fmt::Debug for ParsedSource {
+    fn fmt<W: fmt::Write>(&self, f: &mut fmt::Formatter<W>) -> fmt::Result {
+        fmt::Debug::fmt(self.specifier(), f)?;
+        f.write_str(" ")?;
+        fmt::Debug::fmt(self.text(), f)
     }
 }
 

@@ -4,7 +4,7 @@ ghost use Rattle.grammar_theory.specs.declared.error.Mode.TheVariants as mode;
 ghost use Rattle.es_lexer.specs.Reads.{ReadsTokens};
 ghost use Rattle.es_ast.specs.declared.ast.Program.{Program as Typed};
 ghost use Rattle.es_lowering.specs.derives.Derives.{Derives};
-ghost use Rattle.es_parser.specs.Answers.{GivesTree};
+ghost use Rattle.es_parser.specs.Answers.{GivesTree, IsOwn};
 ghost use Rattle.source_reading.specs.Tree.{IsFirstTree, IsTree};
 ghost use Rattle.source_sites.specs.Modes.{modes_in};
 
@@ -26,7 +26,7 @@ pub fn tree_of(
     tokens: &SharedTokens,
 ) -> Result<Program, SyntaxError>
     requires { ReadsTokens text.now tokens.now }
-    ensures made { IfOk result (IsTree media_type text.now tokens.now) }
+    ensures made { IfOk result (λ p. IsTree media_type text.now tokens.now p.typed) }
     ensures only { (tree : Typed) → IsTree media_type text.now tokens.now tree → GivesTree result tree }
 {
     let lang = language_of(media_type);
@@ -43,7 +43,9 @@ pub fn tree_in(
 ) -> Result<Program, SyntaxError>
     requires { ReadsTokens text.now tokens.now }
     // What is answered is the tree.
-    ensures made { IfOk result (IsFirstTree lang text.now tokens.now (modes_in modes)) }
+    ensures made { IfOk result (λ p. IsFirstTree lang text.now tokens.now (modes_in modes) p.typed) }
+    // It is that of this text and these tokens.
+    ensures own { IfOk result (IsOwn lang text.now tokens.now) }
     // The tree is answered, unless memory runs out.
     ensures only { (tree : Typed) → IsFirstTree lang text.now tokens.now (modes_in modes) tree → GivesTree result tree }
 {
@@ -61,7 +63,8 @@ fn parse_only(
     tokens: &SharedTokens,
 ) -> Result<Program, SyntaxError>
     requires { ReadsTokens text.now tokens.now }
-    ensures made { IfOk result (IsFirstTree lang text.now tokens.now (mode ∷ [])) }
+    ensures made { IfOk result (λ p. IsFirstTree lang text.now tokens.now (mode ∷ []) p.typed) }
+    ensures own { IfOk result (IsOwn lang text.now tokens.now) }
     ensures only { (tree : Typed) → IsFirstTree lang text.now tokens.now (mode ∷ []) tree → GivesTree result tree }
 {
     parse_tokens(alloc, lang, mode, text, tokens)
@@ -76,7 +79,8 @@ fn parse_either(
     tokens: &SharedTokens,
 ) -> Result<Program, SyntaxError>
     requires { ReadsTokens text.now tokens.now }
-    ensures made { IfOk result (IsFirstTree lang text.now tokens.now (mode.Script ∷ mode.Module ∷ [])) }
+    ensures made { IfOk result (λ p. IsFirstTree lang text.now tokens.now (mode.Script ∷ mode.Module ∷ []) p.typed) }
+    ensures own { IfOk result (IsOwn lang text.now tokens.now) }
     ensures only { (tree : Typed) → IsFirstTree lang text.now tokens.now (mode.Script ∷ mode.Module ∷ []) tree
         → GivesTree result tree }
 {
@@ -94,7 +98,8 @@ fn script_first(
     tokens: &SharedTokens,
 ) -> Result<Program, SyntaxError>
     requires { ReadsTokens text.now tokens.now }
-    ensures made { IfOk result (IsFirstTree lang text.now tokens.now (mode.Script ∷ mode.Module ∷ [])) }
+    ensures made { IfOk result (λ p. IsFirstTree lang text.now tokens.now (mode.Script ∷ mode.Module ∷ []) p.typed) }
+    ensures own { IfOk result (IsOwn lang text.now tokens.now) }
     ensures only { (tree : Typed) → IsFirstTree lang text.now tokens.now (mode.Script ∷ mode.Module ∷ []) tree
         → GivesTree result tree }
 {
@@ -114,7 +119,8 @@ fn module_first(
     tokens: &SharedTokens,
 ) -> Result<Program, SyntaxError>
     requires { ReadsTokens text.now tokens.now }
-    ensures made { IfOk result (IsFirstTree lang text.now tokens.now (mode.Script ∷ mode.Module ∷ [])) }
+    ensures made { IfOk result (λ p. IsFirstTree lang text.now tokens.now (mode.Script ∷ mode.Module ∷ []) p.typed) }
+    ensures own { IfOk result (IsOwn lang text.now tokens.now) }
     ensures only { (tree : Typed) → IsFirstTree lang text.now tokens.now (mode.Script ∷ mode.Module ∷ []) tree
         → GivesTree result tree }
 {
@@ -134,8 +140,10 @@ fn script_or(
     read: Program,
 ) -> Result<Program, SyntaxError>
     requires reads { ReadsTokens text.now tokens.now }
-    requires derived { Derives lang mode.Module text.now tokens.now read }
-    ensures made { IfOk result (IsFirstTree lang text.now tokens.now (mode.Script ∷ mode.Module ∷ [])) }
+    requires derived { Derives lang mode.Module text.now tokens.now read.typed }
+    requires own { IsOwn lang text.now tokens.now read }
+    ensures made { IfOk result (λ p. IsFirstTree lang text.now tokens.now (mode.Script ∷ mode.Module ∷ []) p.typed) }
+    ensures own { IfOk result (IsOwn lang text.now tokens.now) }
     ensures only { (tree : Typed) → IsFirstTree lang text.now tokens.now (mode.Script ∷ mode.Module ∷ []) tree
         → GivesTree result tree }
 {
@@ -159,7 +167,8 @@ fn no_module(
 ) -> Result<Program, SyntaxError>
     requires reads { ReadsTokens text.now tokens.now }
     requires none { (tree : Typed) → ¬ Derives lang mode.Module text.now tokens.now tree }
-    ensures made { IfOk result (IsFirstTree lang text.now tokens.now (mode.Script ∷ mode.Module ∷ [])) }
+    ensures made { IfOk result (λ p. IsFirstTree lang text.now tokens.now (mode.Script ∷ mode.Module ∷ []) p.typed) }
+    ensures own { IfOk result (IsOwn lang text.now tokens.now) }
     ensures only { (tree : Typed) → IsFirstTree lang text.now tokens.now (mode.Script ∷ mode.Module ∷ []) tree
         → GivesTree result tree }
 {

@@ -39,14 +39,14 @@ fn copy_names(alloc: Global, names: &[Text]) -> Result<Items<Text>, AllocError>
     Ok(copy)
 }
 
-/// The names that a program exports at run time; a script has none. Only want of memory is refused.
+/// The names that a program exports at run time; a script has none.
 #[tactic(auto, unfolding(crate::specs::Exports::exports_of, crate::specs::Exports::reexports_of))]
 pub fn analyze_es_runtime_exports(
     alloc: Global,
     program: &Program,
 ) -> Result<ModuleExportsAndReExports, AllocError>
-    ensures exports { IfOk result (λ it. it.exports ≡ exports_of program.now) }
-    ensures reexports { IfOk result (λ it. it.reexports ≡ reexports_of program.now) }
+    ensures exports { IfOk result (λ it. it.exports ≡ exports_of program.now.typed) }
+    ensures reexports { IfOk result (λ it. it.reexports ≡ reexports_of program.now.typed) }
 {
     match program.form() {
         Form::Module(module) => Ok(ModuleExportsAndReExports {

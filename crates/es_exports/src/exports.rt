@@ -26,7 +26,7 @@ use std::alloc::{AllocError, Global};
 /// The names that a module exports, in order.
 #[tactic(auto, using(crate::proofs::Items::whole_module))]
 pub fn module_exports(alloc: Global, it: &Module) -> Result<Items<Text>, AllocError>
-    ensures { IfOk result (λ found. found ≡ flat_map exported_by it.now.body) }
+    ensures { IfOk result (λ found. found ≡ flat_map exported_by it.now.typed.body) }
 {
     let (text, tokens, items) = it.body();
     let mut out = Names::new(alloc);

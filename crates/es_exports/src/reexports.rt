@@ -23,7 +23,7 @@ use std::alloc::{AllocError, Global};
 /// The specifiers of the modules whose names a module exports again, in order.
 #[tactic(auto, using(crate::proofs::Items::whole_module))]
 pub fn module_reexports(alloc: Global, it: &Module) -> Result<Items<Text>, AllocError>
-    ensures { IfOk result (λ found. found ≡ flat_map reexported_by it.now.body) }
+    ensures { IfOk result (λ found. found ≡ flat_map reexported_by it.now.typed.body) }
 {
     let (text, tokens, items) = it.body();
     let mut out = Names::new(alloc);

@@ -16,10 +16,11 @@ use Rattle.es_syntax.specs.declared.entry.Entry.{Entry}
 use Rattle.es_program_reader.specs.Program.{IsKept, HoldsKept}
 use Rattle.es_program_reader.specs.Derived.{IsRowOf, GivesTree as GivesPlain}
 use Rattle.es_program.specs.Typed.{program_at}
+use Rattle.es_program.specs.Owned.{Owned}
 use Rattle.es_lowering.specs.Lowering.{value_of}
 use Rattle.es_lowering.specs.derives.Derives.{program_in, Derives}
 use Rattle.es_law_programs.proofs.sites.Theorems.{kept_sites}
-use Rattle.es_parser.specs.Answers.{GivesTree}
+use Rattle.es_parser.specs.Answers.{GivesTree, IsOwn}
 use Rattle.es_parser.specs.Made.{IsTyped, HoldsTyped}
 use Rattle.es_parser.proofs.RowLemmas.{row_typed}
 
@@ -35,6 +36,17 @@ module _ (l : Lang) (m : Mode) (x : List ℕ) (ts : List Token) where
     plain = held.kept.plain;
     program = held.kept.program;
     lowered = ap (λ t. program_in (value_of x ts t)) held.kept.kept ∙ (sym (row_typed x ts es held.tree held.row) ∙ made);
+  }
+
+  -- and it is the text's own
+  pub own_of : (es : List Entry) (p : Owned Program) → HoldsKept l m (keys_of ts) es → p.text ≡ x → p.tokens ≡ ts
+      → p.entries ≡ es → program_at x ts es ≡ Some p.typed → IsOwn l x ts p
+  own_of es p held text tokens entries typed = record {
+    text_is = text;
+    tokens_are = tokens;
+    mode = m;
+    kept = subst (HoldsKept l m (keys_of ts)) (sym entries) held;
+    derived = derived_of es p.typed held typed;
   }
 
   -- what is derived is made of the row that was read
@@ -59,10 +71,10 @@ module _ (l : Lang) (m : Mode) (x : List ℕ) (ts : List Token) where
   held_of es held = record { tree = held.tree; row = held.row; made = typed_of held.tree held.kept }
 
 -- a refusal of the plain tree is one of the typed tree
-pub refused : (r : Result Program SyntaxError) (y e : SyntaxError) (p : Program) (tree : Cst) → r ≡ Err y → y ≡ e
+pub refused : (r : Result (Owned Program) SyntaxError) (y e : SyntaxError) (p : Program) (tree : Cst) → r ≡ Err y → y ≡ e
     → GivesPlain (Err e) tree → GivesTree r p
 refused r y e p tree is_err same given =
-    let P : Result Program SyntaxError → Type 0 = λ r. GivesTree r p in
+    let P : Result (Owned Program) SyntaxError → Type 0 = λ r. GivesTree r p in
     subst P (sym (is_err ∙ ap Err same)) (at_error e given)
   where
     at_error : (e : SyntaxError) → GivesPlain (Err e) tree → GivesTree (Err e) p

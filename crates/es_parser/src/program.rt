@@ -5,7 +5,7 @@ ghost use Rattle.es_lexer.specs.Reads.{ReadsTokens};
 ghost use Rattle.es_ast.specs.declared.ast.Program.{Program as Typed};
 ghost use Rattle.es_lowering.specs.derives.Derives.{Derives};
 ghost use Rattle.es_program.specs.Typed.{program_at};
-ghost use Rattle.es_parser.specs.Answers.{GivesTree};
+ghost use Rattle.es_parser.specs.Answers.{GivesTree, IsOwn};
 ghost use Rattle.es_parser.specs.Made.{HoldsTyped};
 
 use es_program::{Program, SharedTokens};
@@ -26,7 +26,9 @@ pub fn parse_tokens(
 ) -> Result<Program, SyntaxError>
     requires { ReadsTokens text.now tokens.now }
     // What is answered is derived.
-    ensures derived { IfOk result (Derives lang mode text.now tokens.now) }
+    ensures derived { IfOk result (λ program. Derives lang mode text.now tokens.now program.typed) }
+    // It is that of this text and these tokens, and its row is their tree.
+    ensures own { IfOk result (IsOwn lang text.now tokens.now) }
     // What is derived is answered, unless memory runs out: so `Syntax` comes only where nothing is derived.
     ensures only { (tree : Typed) → Derives lang mode text.now tokens.now tree → GivesTree result tree }
 {
@@ -46,7 +48,10 @@ fn program_of(
 ) -> Result<Program, AllocError>
     requires reads { ReadsTokens text.now tokens.now }
     requires typed { HoldsTyped text.now tokens.now row.items }
-    ensures { IfOk result (λ program. program_at text.now tokens.now row.items ≡ Some program) }
+    ensures text { IfOk result (λ program. program.text ≡ text.now) }
+    ensures tokens { IfOk result (λ program. program.tokens ≡ tokens.now) }
+    ensures entries { IfOk result (λ program. program.entries ≡ row.items) }
+    ensures typed { IfOk result (λ program. program_at text.now tokens.now row.items ≡ Some program.typed) }
 {
     let sites = tree_sites(alloc, text.as_str(), tokens.as_slice(), row.as_slice())?;
     Program::new(alloc, text.copy()?, tokens.copy()?, row, sites)

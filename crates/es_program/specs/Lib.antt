@@ -1,6 +1,8 @@
 pub mod items
 -- what a row is as a program
 pub mod Typed
+-- what contracts see of an owner
+pub mod Owned
 -- what stands behind an owner
 pub mod Sources
 -- the program that an owner is

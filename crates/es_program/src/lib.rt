@@ -1,4 +1,4 @@
-//! Programs: a text, its tokens and a row of entries, which contracts see as the typed program that they are.
+//! Programs: a text, its tokens and a row of entries, and the typed program that the row is (`Owned`, `specs/Owned.antt`).
 //!
 //! - `Program`, `Module`, `Script`: owners, whose meaning is the declared program of `es_ast`. Nobody builds that one.
 //!   Copies share what they own.

@@ -29,16 +29,17 @@ impl Model for Module {
     ghost use Rattle.es_ast.specs.declared.ast.Module.{Module as Typed};
     ghost use Rattle.es_ast.specs.declared.ast.Program.TheVariants as program;
     ghost use Rattle.es_ast.specs.contracts.ast.ModuleItem as items;
-    ghost use Rattle.es_program.specs.Typed.{the_module};
-    ghost use Rattle.es_program.specs.Sources.{typed_of, Keeps};
+    ghost use Rattle.es_syntax.specs.contracts.entry.Entry as entry;
+    ghost use Rattle.es_program.specs.Owned.{Owned};
+    ghost use Rattle.es_program.specs.Sources.{module_by, Keeps};
 
-    ghost Value = { Typed };
+    ghost Value = { Owned Typed };
 
-    ghost coded = { Prim.hlevel (codes, items.the_row.coded) };
+    ghost coded = { Prim.hlevel (codes, items.the_row.coded, entry.the_row.coded) };
 
-    ghost view = { λ it. the_module (typed_of (arc_value it.source)) };
+    ghost view = { λ it. module_by (arc_value it.source) };
 
-    ghost invariant = { λ it. Keeps (arc_value it.source) (program.Module (the_module (typed_of (arc_value it.source)))) };
+    ghost invariant = { λ it. Keeps (arc_value it.source) (program.Module (module_by (arc_value it.source)).typed) };
 }
 
 impl Module {
@@ -46,21 +47,30 @@ impl Module {
     #[tactic(auto, using(crate::proofs::Owners::module_keeps))]
     pub fn new(source: Arc<ProgramSource>) -> Module
         requires { (it : Typed) × Keeps (arc_value source) (program.Module it) }
-        ensures { typed_of (arc_value source) ≡ Some (program.Module result) }
+        ensures text { result.text ≡ (arc_value source).text }
+        ensures tokens { result.tokens ≡ (arc_value source).tokens }
+        ensures entries { result.entries ≡ (arc_value source).row.items }
+        ensures typed { typed_of (arc_value source) ≡ Some (program.Module result.typed) }
     {
         Module { source }
     }
 
     fn source(&self) -> &ProgramSource
-        ensures { Keeps result.now (program.Module self.now) }
+        ensures text { result.now.text ≡ self.now.text }
+        ensures tokens { result.now.tokens ≡ self.now.tokens }
+        ensures entries { result.now.row.items ≡ self.now.entries }
+        ensures keeps { Keeps result.now (program.Module self.now.typed) }
     {
         &self.source
     }
 
-    /// Its text, its tokens and its parts.
+    /// Its text, its tokens and its row of entries.
     pub fn parts(&self) -> (&str, &[Token], Siblings<'_>)
         ensures reads { ReadsTokens result.0.now result.1.now }
-        ensures typed { program_at result.0.now result.1.now result.2.entries.now ≡ Some (program.Module self.now) }
+        ensures text { result.0.now ≡ self.now.text }
+        ensures tokens { result.1.now ≡ self.now.tokens }
+        ensures entries { result.2.entries.now ≡ self.now.entries }
+        ensures typed { program_at result.0.now result.1.now result.2.entries.now ≡ Some (program.Module self.now.typed) }
     {
         let source = self.source();
         (source.text.as_str(), source.tokens.as_slice(), source.row())
@@ -68,27 +78,27 @@ impl Module {
 
     /// The places where it names other modules, in the order of the text.
     pub fn sites(&self) -> &[Site]
-        ensures { result.now ≡ sites_of (program.Module self.now) }
+        ensures { result.now ≡ sites_of (program.Module self.now.typed) }
     {
         self.source().sites.as_slice()
     }
 
     pub fn span(&self) -> Range
-        ensures { result ≡ self.now.span }
+        ensures { result ≡ self.now.typed.span }
     {
         self.source().span()
     }
 
     /// The line behind `#!`, without them.
     pub fn shebang(&self) -> Option<&str>
-        ensures { MatchOption result (self.now.shebang ≡ None) (λ line. self.now.shebang ≡ Some line.now) }
+        ensures { MatchOption result (self.now.typed.shebang ≡ None) (λ line. self.now.typed.shebang ≡ Some line.now) }
     {
         self.source().shebang()
     }
 
     /// Its text, its tokens, and its items as turns.
     pub fn body(&self) -> (&str, &[Token], Siblings<'_>)
-        ensures { HasBody result.0.now result.1.now (program.Module self.now) result.2.entries.now }
+        ensures { HasBody result.0.now result.1.now (program.Module self.now.typed) result.2.entries.now }
     {
         let source = self.source();
         (

@@ -33,11 +33,13 @@ impl Model for Program {
     ghost use Rattle.es_ast.specs.declared.ast.Program.{Program as Typed};
     ghost use Rattle.es_ast.specs.contracts.ast.ModuleItem as module_item;
     ghost use Rattle.es_ast.specs.contracts.ast.Stmt as stmt;
+    ghost use Rattle.es_syntax.specs.contracts.entry.Entry as entry;
+    ghost use Rattle.es_program.specs.Owned.{Owned};
     ghost use Rattle.es_program.specs.Forms.{program_of};
 
-    ghost Value = { Typed };
+    ghost Value = { Owned Typed };
 
-    ghost coded = { Prim.hlevel (codes, module_item.the_row.coded, stmt.the_row.coded) };
+    ghost coded = { Prim.hlevel (codes, module_item.the_row.coded, stmt.the_row.coded, entry.the_row.coded) };
 
     ghost view = { λ it. program_of it.form };
 }
@@ -52,7 +54,10 @@ impl Program {
         sites: Items<Site>,
     ) -> Result<Program, AllocError>
         requires { HoldsSome text tokens row.items sites }
-        ensures { IfOk result (λ it. program_at text tokens row.items ≡ Some it) }
+        ensures text { IfOk result (λ it. it.text ≡ text) }
+        ensures tokens { IfOk result (λ it. it.tokens ≡ tokens) }
+        ensures entries { IfOk result (λ it. it.entries ≡ row.items) }
+        ensures typed { IfOk result (λ it. program_at text tokens row.items ≡ Some it.typed) }
     {
         let source = ProgramSource {
             text,
@@ -62,7 +67,9 @@ impl Program {
         };
         let is_module = source.is_module();
         let source = Arc::new(alloc, source)?;
-        Ok(Program::from_form(form_of(is_module, source)))
+        Ok(Program {
+            form: form_of(is_module, source),
+        })
     }
 
     pub fn from_form(form: Form) -> Program
@@ -87,7 +94,7 @@ impl Program {
     }
 
     pub fn is_script(&self) -> bool
-        ensures { result ≡ not (tells_module self.now) }
+        ensures { result ≡ not (tells_module self.now.typed) }
     {
         match &self.form {
             Form::Module(_) => false,
@@ -95,10 +102,13 @@ impl Program {
         }
     }
 
-    /// Its text, its tokens and its parts.
+    /// Its text, its tokens and its row of entries.
     pub fn parts(&self) -> (&str, &[Token], Siblings<'_>)
         ensures reads { ReadsTokens result.0.now result.1.now }
-        ensures typed { program_at result.0.now result.1.now result.2.entries.now ≡ Some self.now }
+        ensures text { result.0.now ≡ self.now.text }
+        ensures tokens { result.1.now ≡ self.now.tokens }
+        ensures entries { result.2.entries.now ≡ self.now.entries }
+        ensures typed { program_at result.0.now result.1.now result.2.entries.now ≡ Some self.now.typed }
     {
         match &self.form {
             Form::Module(module) => module.parts(),
@@ -108,7 +118,7 @@ impl Program {
 
     /// The places where it names other modules, in the order of the text.
     pub fn sites(&self) -> &[Site]
-        ensures { result.now ≡ sites_of self.now }
+        ensures { result.now ≡ sites_of self.now.typed }
     {
         match &self.form {
             Form::Module(module) => module.sites(),
@@ -117,7 +127,7 @@ impl Program {
     }
 
     pub fn span(&self) -> Range
-        ensures { result ≡ span_in self.now }
+        ensures { result ≡ span_in self.now.typed }
     {
         match &self.form {
             Form::Module(module) => module.span(),
@@ -127,7 +137,7 @@ impl Program {
 
     /// The line behind `#!`, without them.
     pub fn shebang(&self) -> Option<&str>
-        ensures { MatchOption result (shebang_in self.now ≡ None) (λ line. shebang_in self.now ≡ Some line.now) }
+        ensures { MatchOption result (shebang_in self.now.typed ≡ None) (λ line. shebang_in self.now.typed ≡ Some line.now) }
     {
         match &self.form {
             Form::Module(module) => module.shebang(),
@@ -149,7 +159,10 @@ impl Program {
 
 fn form_of(is_module: bool, source: Arc<ProgramSource>) -> Form
     requires { (p : Typed) × Keeps (arc_value source) p × (tells_module p ≡ is_module) }
-    ensures { typed_of (arc_value source) ≡ Some (program_of result) }
+    ensures text { (program_of result).text ≡ (arc_value source).text }
+    ensures tokens { (program_of result).tokens ≡ (arc_value source).tokens }
+    ensures entries { (program_of result).entries ≡ (arc_value source).row.items }
+    ensures typed { typed_of (arc_value source) ≡ Some (program_of result).typed }
 {
     if is_module {
         Form::Module(Module::new(source))

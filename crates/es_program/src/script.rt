@@ -29,16 +29,17 @@ impl Model for Script {
     ghost use Rattle.es_ast.specs.declared.ast.Script.{Script as Typed};
     ghost use Rattle.es_ast.specs.declared.ast.Program.TheVariants as program;
     ghost use Rattle.es_ast.specs.contracts.ast.Stmt as items;
-    ghost use Rattle.es_program.specs.Typed.{the_script};
-    ghost use Rattle.es_program.specs.Sources.{typed_of, Keeps};
+    ghost use Rattle.es_syntax.specs.contracts.entry.Entry as entry;
+    ghost use Rattle.es_program.specs.Owned.{Owned};
+    ghost use Rattle.es_program.specs.Sources.{script_by, Keeps};
 
-    ghost Value = { Typed };
+    ghost Value = { Owned Typed };
 
-    ghost coded = { Prim.hlevel (codes, items.the_row.coded) };
+    ghost coded = { Prim.hlevel (codes, items.the_row.coded, entry.the_row.coded) };
 
-    ghost view = { λ it. the_script (typed_of (arc_value it.source)) };
+    ghost view = { λ it. script_by (arc_value it.source) };
 
-    ghost invariant = { λ it. Keeps (arc_value it.source) (program.Script (the_script (typed_of (arc_value it.source)))) };
+    ghost invariant = { λ it. Keeps (arc_value it.source) (program.Script (script_by (arc_value it.source)).typed) };
 }
 
 impl Script {
@@ -46,21 +47,30 @@ impl Script {
     #[tactic(auto, using(crate::proofs::Owners::script_keeps))]
     pub fn new(source: Arc<ProgramSource>) -> Script
         requires { (it : Typed) × Keeps (arc_value source) (program.Script it) }
-        ensures { typed_of (arc_value source) ≡ Some (program.Script result) }
+        ensures text { result.text ≡ (arc_value source).text }
+        ensures tokens { result.tokens ≡ (arc_value source).tokens }
+        ensures entries { result.entries ≡ (arc_value source).row.items }
+        ensures typed { typed_of (arc_value source) ≡ Some (program.Script result.typed) }
     {
         Script { source }
     }
 
     fn source(&self) -> &ProgramSource
-        ensures { Keeps result.now (program.Script self.now) }
+        ensures text { result.now.text ≡ self.now.text }
+        ensures tokens { result.now.tokens ≡ self.now.tokens }
+        ensures entries { result.now.row.items ≡ self.now.entries }
+        ensures keeps { Keeps result.now (program.Script self.now.typed) }
     {
         &self.source
     }
 
-    /// Its text, its tokens and its parts.
+    /// Its text, its tokens and its row of entries.
     pub fn parts(&self) -> (&str, &[Token], Siblings<'_>)
         ensures reads { ReadsTokens result.0.now result.1.now }
-        ensures typed { program_at result.0.now result.1.now result.2.entries.now ≡ Some (program.Script self.now) }
+        ensures text { result.0.now ≡ self.now.text }
+        ensures tokens { result.1.now ≡ self.now.tokens }
+        ensures entries { result.2.entries.now ≡ self.now.entries }
+        ensures typed { program_at result.0.now result.1.now result.2.entries.now ≡ Some (program.Script self.now.typed) }
     {
         let source = self.source();
         (source.text.as_str(), source.tokens.as_slice(), source.row())
@@ -68,27 +78,27 @@ impl Script {
 
     /// The places where it names other modules, in the order of the text.
     pub fn sites(&self) -> &[Site]
-        ensures { result.now ≡ sites_of (program.Script self.now) }
+        ensures { result.now ≡ sites_of (program.Script self.now.typed) }
     {
         self.source().sites.as_slice()
     }
 
     pub fn span(&self) -> Range
-        ensures { result ≡ self.now.span }
+        ensures { result ≡ self.now.typed.span }
     {
         self.source().span()
     }
 
     /// The line behind `#!`, without them.
     pub fn shebang(&self) -> Option<&str>
-        ensures { MatchOption result (self.now.shebang ≡ None) (λ line. self.now.shebang ≡ Some line.now) }
+        ensures { MatchOption result (self.now.typed.shebang ≡ None) (λ line. self.now.typed.shebang ≡ Some line.now) }
     {
         self.source().shebang()
     }
 
     /// Its text, its tokens, and its statements as turns.
     pub fn body(&self) -> (&str, &[Token], Siblings<'_>)
-        ensures { HasBody result.0.now result.1.now (program.Script self.now) result.2.entries.now }
+        ensures { HasBody result.0.now result.1.now (program.Script self.now.typed) result.2.entries.now }
     {
         let source = self.source();
         (

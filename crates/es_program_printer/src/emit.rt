@@ -1,7 +1,7 @@
 //! The printed text of a program, a module, a script.
 ghost use Rattle.std.specs.Prelude.{◌≡◌, None, IfOk, string_bytes};
 ghost use Rattle.std.specs.Option.{option_map};
-ghost use Rattle.es_ast.specs.declared.ast.Program.TheVariants as program;
+ghost use Rattle.es_program.specs.Owned.{of_module, of_script};
 ghost use Rattle.es_program_printer.specs.Printed.{IsPrinted, kept_comments};
 
 use crate::options::{EmitOptions, EmittedSourceText};
@@ -53,7 +53,7 @@ pub fn emit_module(
     comments: &MultiThreadedComments,
     options: &EmitOptions,
 ) -> Result<EmittedSourceText, AllocError>
-    ensures text { IfOk result (λ it. IsPrinted (program.Module source.now) (kept_comments options.now.remove_comments comments.now) it.text) }
+    ensures text { IfOk result (λ it. IsPrinted (of_module source.now) (kept_comments options.now.remove_comments comments.now) it.text) }
     ensures map { IfOk result (λ it. it.source_map ≡ None) }
 {
     let (text, tokens, row) = source.parts();
@@ -69,7 +69,7 @@ pub fn emit_script(
     comments: &MultiThreadedComments,
     options: &EmitOptions,
 ) -> Result<EmittedSourceText, AllocError>
-    ensures text { IfOk result (λ it. IsPrinted (program.Script source.now) (kept_comments options.now.remove_comments comments.now) it.text) }
+    ensures text { IfOk result (λ it. IsPrinted (of_script source.now) (kept_comments options.now.remove_comments comments.now) it.text) }
     ensures map { IfOk result (λ it. it.source_map ≡ None) }
 {
     let (text, tokens, row) = source.parts();

@@ -118,7 +118,7 @@ fn of_tokens(
 
 #[tactic(auto, using(crate::proofs::ExportLemmas::as_common_js, crate::proofs::ExportLemmas::at_run_time))]
 fn of_program(alloc: Global, common_js: bool, program: &Program) -> Result<Finding, AllocError>
-    ensures { IfOk result (OfProgram common_js program.now) }
+    ensures { IfOk result (OfProgram common_js program.now.typed) }
 {
     if common_js {
         return Ok(Finding::Exports(analyze_cjs(alloc, program)?));

@@ -2,6 +2,7 @@
 use Rattle.std.proofs.Common.{◌≡◌, ℕ, List, sym, subst}
 use Rattle.grammar_theory.specs.declared.error.Mode.{Mode}
 use Rattle.es_ast.specs.declared.ast.Program.{Program}
+use Rattle.es_program.specs.Owned.{Owned}
 use Rattle.es_site.specs.declared.site.Site.{Site}
 use Rattle.media_type.specs.declared.media_type.MediaType.{MediaType}
 use Rattle.source_reading.specs.Read.{IsRead}
@@ -14,17 +15,18 @@ use Rattle.specifier_rewriting.specs.Own.{IsOwnTree}
 
 -- the sites of such a source are those of its text
 pub own_sites : (s : Parsed) → IsOwnTree s → AreSites s.text (parsed_sites s)
-own_sites s own = read_sites own.lang own.modes s.media_type s.text s.tree s.references own.read
+own_sites s own = read_sites own.lang own.modes s.media_type s.text s.tree.typed s.references own.read
 
 -- what is parsed, and no function has changed, is such a source
 pub parsed_own : (modes : List Mode) (params : ParseParams) (text : List ℕ) (s : Parsed) → IsParsed modes params text s
     → IsOwnTree s
 parsed_own modes params text s parsed =
-    let Kept : Program → MediaType → List ℕ → Type 0 = λ tree media x. IsRead (lang_for params) modes media x tree s.references in
+    let Kept : Owned Program → MediaType → List ℕ → Type 0 =
+    λ tree media x. IsRead (lang_for params) modes media x tree.typed s.references in
     record {
       lang = lang_for params;
       modes = modes;
-      read = subst (λ (tree : Program). Kept tree s.media_type s.text) (sym parsed.kept)
+      read = subst (λ (tree : Owned Program). Kept tree s.media_type s.text) (sym parsed.kept)
           (subst (λ (media : MediaType). Kept parsed.tree media s.text) (sym parsed.media_type)
           (subst (λ (x : List ℕ). Kept parsed.tree params.media_type x) (sym parsed.text_is) parsed.read));
     }

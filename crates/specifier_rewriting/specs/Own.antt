@@ -10,4 +10,4 @@ use Rattle.deno_ast.specs.Parsed.{Parsed}
 pub record IsOwnTree (s : Parsed) : Type 0 where
   pub lang : Lang
   pub modes : List Mode
-  pub read : IsRead lang modes s.media_type s.text s.tree s.references
+  pub read : IsRead lang modes s.media_type s.text s.tree.typed s.references

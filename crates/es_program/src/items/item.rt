@@ -5,6 +5,7 @@ ghost use Rattle.es_syntax.specs.Roles.{stmt_in};
 ghost use Rattle.es_program.specs.items.Items.{is_some, decl_in};
 
 use crate::items::place::Place;
+use std::fmt;
 
 /// An import or an export that is lent: a node with its text and tokens.
 #[derive(Clone, Copy)]
@@ -25,4 +26,13 @@ pub struct StmtRef<'a> {
 pub enum ModuleItemRef<'a> {
     ModuleDecl(ModuleDeclRef<'a>),
     Stmt(StmtRef<'a>),
+}
+
+impl fmt::Debug for ModuleItemRef<'_> {
+    fn fmt<W: fmt::Write>(&self, f: &mut fmt::Formatter<W>) -> fmt::Result {
+        f.write_str(match self {
+            ModuleItemRef::ModuleDecl(_) => "ModuleDecl",
+            ModuleItemRef::Stmt(_) => "Stmt",
+        })
+    }
 }

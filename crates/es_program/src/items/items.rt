@@ -19,7 +19,7 @@ use es_syntax::Item;
 /// The items of a module.
 #[tactic(auto, using(crate::proofs::items_lemmas::Bodies::module_items))]
 pub fn module_body(it: &Module) -> Body<'_>
-    ensures { items_left result ≡ it.now.body }
+    ensures { items_left result ≡ it.now.typed.body }
 {
     let (text, tokens, turns) = it.body();
     Body {
@@ -33,7 +33,7 @@ pub fn module_body(it: &Module) -> Body<'_>
 /// The statements of a script, as items.
 #[tactic(auto, using(crate::proofs::items_lemmas::Bodies::script_items))]
 pub fn script_body(it: &Script) -> Body<'_>
-    ensures { items_left result ≡ map item.Stmt it.now.body }
+    ensures { items_left result ≡ map item.Stmt it.now.typed.body }
 {
     let (text, tokens, turns) = it.body();
     Body {

@@ -10,7 +10,7 @@ use Rattle.deno_ast.proofs.tree.no_module.Goals as goal
 -- it is a script
 pub returns-in-Ok-clause-only : goal.returns-in-Ok-clause-only
 returns-in-Ok-clause-only c = λ tree is.
-    first_once c.args.lang c.args.text.now c.args.tokens.now (mode.Script ∷ mode.Module ∷ []) c.in-Ok.program tree
+    first_once c.args.lang c.args.text.now c.args.tokens.now (mode.Script ∷ mode.Module ∷ []) c.in-Ok.program.typed tree
     (inl c.in-Ok.ensures.derived) is
 
 -- it is neither

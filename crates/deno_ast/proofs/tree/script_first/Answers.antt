@@ -16,7 +16,7 @@ returns-in-Err-Syntax-clause-made c =
     subst (λ (e : SyntaxError). GivesTree (Err e) tree) c.in-Err-Syntax.field-0-is
     (c.in-Err-Syntax.ensures.only tree is) in
     IfOk-weaker c.parse_tokens-in-Err-Syntax.result _ _
-    (λ tree is. later c.args.lang c.args.text.now c.args.tokens.now mode.Script mode.Module tree none is)
+    (λ tree is. later c.args.lang c.args.text.now c.args.tokens.now mode.Script mode.Module tree.typed none is)
     c.parse_tokens-in-Err-Syntax.ensures.derived
 
 -- it is no script, and a module is read if it is one
@@ -31,5 +31,5 @@ returns-in-Err-Syntax-clause-only c = λ tree is.
 -- it is a script: the one that was read
 pub returns-in-Ok-clause-only : goal.returns-in-Ok-clause-only
 returns-in-Ok-clause-only c = λ tree is.
-    first_once c.args.lang c.args.text.now c.args.tokens.now (mode.Script ∷ mode.Module ∷ []) c.in-Ok.program tree
+    first_once c.args.lang c.args.text.now c.args.tokens.now (mode.Script ∷ mode.Module ∷ []) c.in-Ok.program.typed tree
     (inl c.in-Ok.ensures.derived) is

@@ -10,7 +10,7 @@ use Rattle.graph_c.proofs.exporting.of_tokens.Goals as goal
 -- what the tree exports that there is
 pub returns-in-Ok : goal.returns-in-Ok
 returns-in-Ok c =
-    IfOk-weaker c.of_program.result _ _ (λ found is. of_tree c.in-Ok.program c.in-Ok.ensures.made is) c.of_program.ensures
+    IfOk-weaker c.of_program.result _ _ (λ found is. of_tree c.in-Ok.program.typed c.in-Ok.ensures.made is) c.of_program.ensures
 
 -- a refusal says that there is none
 pub returns-in-Err-Syntax : goal.returns-in-Err-Syntax

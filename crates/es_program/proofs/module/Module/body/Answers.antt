@@ -5,4 +5,4 @@ use Rattle.es_program.proofs.module.Module.body.Goals as goal
 pub returns : goal.returns
 returns c =
     rw (c.as_str.ensures, c.as_slice.ensures)
-    (c.body.ensures (vProgram.Module c.args.self.now) c.source-source.ensures.typed)
+    (c.body.ensures (vProgram.Module c.args.self.now.typed) c.source-source.ensures.keeps.typed)

@@ -3,4 +3,4 @@ use Rattle.es_program.proofs.module.Module.shebang.Goals as goal
 
 -- the line of the node
 pub returns : goal.returns
-returns c = c.shebang.ensures (vProgram.Module c.args.self.now) c.source.ensures.typed
+returns c = c.shebang.ensures (vProgram.Module c.args.self.now.typed) c.source.ensures.keeps.typed

@@ -4,4 +4,4 @@ use Rattle.es_program.proofs.script.Script.span.Goals as goal
 
 -- the span of the node
 pub returns : goal.returns
-returns c = sym (c.span.ensures (vProgram.Script c.args.self.now) c.source.ensures.typed)
+returns c = sym (c.span.ensures (vProgram.Script c.args.self.now.typed) c.source.ensures.keeps.typed)
