@@ -204,7 +204,7 @@ def depth_of(tokens):
     return most
 
 
-LEFT_OUT = "which this project doesn't read, though the language has it"
+LEFT_OUT = "a form of the language that this project doesn't read"
 
 
 def reason_at(search, number, specifier):
@@ -226,19 +226,19 @@ def reason_at(search, number, specifier):
             return f"<T>x, a type in front of an expression, {LEFT_OUT}: write x as T"
         return f"JSX, {LEFT_OUT}"
     if token.is_sign("/", "/=") and before is not None and before.is_sign("}"):
-        return f"a regular expression right behind }}, {LEFT_OUT}: put a ; in front"
+        return f"a regular expression right after }}, {LEFT_OUT}: put a ; in front"
     for one in (token, before):
         if one is not None and one.is_word("let", "await", "yield") and not (one is before and token.kind in ("word", "string", "number")):
             return f"'{one.text}' isn't read as a name here, though in some places the language has it as one"
     if depth_of(tokens) > DEEP:
         return f"it may be nested too deep: more than 500 nodes on a path, {LEFT_OUT}"
     if token.is_word("import", "export") and specifier.split("?")[0].lower().endswith(".cjs"):
-        return f"'{token.text}' can't stand here: a .cjs file is read as a script"
+        return f"unexpected '{token.text}': a .cjs file is read as a script"
     if not typed and is_of_types(token, before):
-        return f"'{shortened(token.text)}' can't stand here; types are read in files of TypeScript alone"
+        return f"unexpected '{shortened(token.text)}': types are read only in TypeScript files"
     if behind is None:
-        return f"'{shortened(token.text)}' can't stand here, at the end of the text"
-    return f"'{shortened(token.text)}' can't stand here"
+        return f"unexpected '{shortened(token.text)}' at the end of the text"
+    return f"unexpected '{shortened(token.text)}'"
 
 
 def form_left_out(tokens, number, typed):
@@ -259,7 +259,7 @@ def form_left_out(tokens, number, typed):
     if typed and here == "import" and next1 == "(" and next3 == ",":
         return f"attributes of an import type, {LEFT_OUT}"
     if typed and one == "as" and two == "type":
-        return f"'as' behind type in braces, {LEFT_OUT}"
+        return f"'as' after type in braces, {LEFT_OUT}"
     if typed and one == ">" and here in (";", ",", ")", "]", "}", "?.") and sign_in_statement(tokens, number, "<"):
         return f"type arguments of an expression that isn't called at once, {LEFT_OUT}"
     return None

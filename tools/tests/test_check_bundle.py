@@ -31,7 +31,7 @@ class CheckBundle(unittest.TestCase):
 
     def test_no_json(self):
         rows = [
-            (b"\xef\xbb\xbf{}", "not JSON: a byte order mark stands in front"), (b'"\xff"', "not JSON: byte 1 is no UTF-8"),
+            (b"\xef\xbb\xbf{}", "not JSON: it starts with a byte order mark"), (b'"\xff"', "not JSON: byte 1 is no UTF-8"),
             ("[" * 128 + "]" * 128, "not JSON here: more than 127 arrays and objects stand within each other"),
             ('{"roots":[1e999]}', "not JSON: the number 1e999 is too large"), ("[NaN]", "not JSON: NaN is no JSON"),
             (r'["\ud800"]', r"not JSON here: half of a surrogate pair, as \ud800, in '\ud800'"),

@@ -38,7 +38,7 @@ class Check(unittest.TestCase):
         self.assertEqual(list(faults_of(value, whole, whole)), [])
         self.assertEqual((status, value["status"], len(value["faults"]), len(value["unread"])), (1, 1, 15, 2))
         self.assertEqual(value["faults"][1], {"kind": "Parse", "specifier": "file:///src/faulty/assigns.ts", "file": "examples/projects/demo/src/faulty/assigns.ts",
-                                              "line": 6, "column": 18, "message": "'=' can't stand here", "range": [126, 127]})
+                                              "line": 6, "column": 18, "message": "unexpected '='", "range": [126, 127]})
         self.assertTrue(out.isascii())
         text = ran("check", "--all", DEMO)[1]
         self.assertEqual(text.splitlines()[-1], value["verdict"])
@@ -65,7 +65,7 @@ class Check(unittest.TestCase):
     def test_annotations(self):
         lines = ran("check", "--github", DEMO)[1].splitlines()
         self.assertEqual(len(lines), 18)
-        self.assertEqual(lines[1], "::error file=examples/projects/demo/src/faulty/assigns.ts,line=6,col=18,title=joravelsu Parse::'=' can't stand here")
+        self.assertEqual(lines[1], "::error file=examples/projects/demo/src/faulty/assigns.ts,line=6,col=18,title=joravelsu Parse::unexpected '='")
         self.assertEqual((verdict.of_message("50%\r\n::error::x"), verdict.of_property("a,b:c%")), ("50%25%0D%0A::error::x", "a%2Cb%3Ac%25"))
 
     def test_output_file(self):

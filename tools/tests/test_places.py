@@ -54,13 +54,13 @@ ROWS = [
 ]
 SENTENCES = [
     ("a.ts", "@d class A {}", "a decorator"), ("a.jsx", "let a = <b/>", "JSX"), ("a.ts", "let a = <b>c", "<T>x"),
-    ("a.js", "var await = 1; export {}", "'await'"), ("a.js", "a = {} /b/.c", "can't stand"), ("a.js", "interface A { b: c }", "types are read in files of TypeScript"),
+    ("a.js", "var await = 1; export {}", "'await'"), ("a.js", "a = {} /b/.c", "unexpected '.'"), ("a.js", "interface A { b: c }", "types are read only in TypeScript files"),
     ("a.cjs", "let a;\nexport { a };", "a .cjs file is read as a script"),
     ("a.js", "a = " + "[" * 600 + "]" * 600, "500 nodes"),
-    ("a.ts", "f(a as b\n(c))", "'(' can't stand here"), ("a.js", "a = 1 - * 2", "can't stand here"),
-    ("a.ts", "a = b > ;", "can't stand here"), ("a.ts", "a = b < c > ;", "isn't called"),
+    ("a.ts", "f(a as b\n(c))", "unexpected '('"), ("a.js", "a = 1 - * 2", "unexpected '*'"),
+    ("a.ts", "a = b > ;", "unexpected ';'"), ("a.ts", "a = b < c > ;", "isn't called"),
     ("a.ts", "let a = f<T>;", "isn't called"), ("a.ts", "type A = B extends infer C extends D ? C : E", "a condition of infer"),
-    ("a.ts", "type A = B extends [infer C extends D] ? C : E", "a condition of infer"), ("a.ts", "import { type as } from 'a'", "behind type"),
+    ("a.ts", "type A = B extends [infer C extends D] ? C : E", "a condition of infer"), ("a.ts", "import { type as } from 'a'", "after type"),
     ("a.ts", "let a: import('a', { with: { b: 'c' } }).d", "attributes of an import type"),
     ("a.js", "<!-- b", "a comment of HTML"), ("a.js", "a\n--> b", "a comment of HTML"), ("a.js", "import a from 'b' assert { type: 'json' }", "write with"),
 ]

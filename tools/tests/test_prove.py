@@ -63,7 +63,9 @@ class Prove(Folder):
             first = self.sum()
 
     def test_an_unproved_program_is_that_of_its_sources(self):
-        kit, root = unproved.kits.kit, unproved.kits.ROOT
+        kit, root, kept = unproved.kits.kit, unproved.kits.ROOT, unproved.kits.KEPT
+        unproved.kits.KEPT = self.room
+        self.addCleanup(setattr, unproved.kits, "KEPT", kept)
         unproved.kits.kit, unproved.kits.ROOT = lambda: self.room, self.room
         self.addCleanup(lambda: (setattr(unproved.kits, "kit", kit), setattr(unproved.kits, "ROOT", root)))
         first = unproved.sum_of("high")
