@@ -71,6 +71,17 @@ class TryTests(unittest.TestCase):
         self.assertEqual([self.ended(True)[1], self.ended(True, False)[1], self.ended(None, False)[1], self.ended(True, None)[1]], [0, 1, 1, 75])
         self.assertEqual(self.ended(True, False, None)[0], ["1 passed, 1 failed: row 1", " 1 not tried"])
 
+    def test_only_what_failed_is_printed(self):
+        for verbose, lines in ((False, 2), (True, 3)):
+            said = io.StringIO()
+            with contextlib.redirect_stdout(said):
+                tally = try_tests.Tally(3, verbose)
+                tally.take("one", True, "so", 1.0)
+                tally.take("two", False, "why", 1.0)
+                tally.take("three", True, "so", 1.0) if not verbose else None
+            self.assertEqual(said.getvalue().splitlines()[-2:], ["try-tests: 2 of 3: two: FAILED, 1 s", "why"])
+            self.assertEqual(len(said.getvalue().splitlines()), lines)
+
     def test_after_its_minutes_it_ends(self):
         for word, counts, status in (("passes", "1 passed, 0 failed; 1 not tried", 75), ("fails", "0 passed, 1 failed: tests of base; 1 not tried", 1)):
             ran = subprocess.run([sys.executable, "-c", SLOW, word], capture_output=True, text=True, check=False, timeout=60)
