@@ -12,7 +12,7 @@ import unittest
 TOOLS = os.path.dirname(os.path.dirname(os.path.abspath(__file__)))
 ROOT = os.path.dirname(TOOLS)
 sys.path.insert(0, TOOLS)
-from parts import compare, config, kit, report, usage, verdict, why, words  # noqa: E402
+from parts import compare, config, kit, report, usage, vendoring, verdict, why, words  # noqa: E402
 from tests.test_graph_tools import REPORT, faults_of  # noqa: E402
 
 JORAVELSU = os.path.join(ROOT, "joravelsu")
@@ -147,6 +147,74 @@ class Why(unittest.TestCase):
             self.assertEqual(found.alone, ["file:///" + it for it in alone], name)
 
 
+class Vendor(unittest.TestCase):
+    FILES = {
+        "package.json": "{}", "src/main.ts": "/// <reference path='types.d.ts' />\nimport './a'; import './d/'; import 'p/x'; import 'fs'; import j from './j.json' with { type: 'json' };\nimport './m.wasm'; import type { T } from './t';\n"
+        "import 'data:text/javascript,export%20{}'; import 'https://h.test/x.js'; export * from '../A.js'; import('../a.js'); import '@/a'; import './it%27s.js'",
+        "src/types.d.ts": "", "src/a.ts": "\ufeff// é\nimport /* x */ './main'; const s = './main'", "src/d/index.js": "", "node_modules/p/package.json": '{"exports": {"./x": "./lib/x.mjs"}}',
+        "node_modules/p/lib/x.mjs": "import '../y.cjs'", "node_modules/p/y.cjs": "", "src/j.json": "{}", "src/t.ts": "export type T = 1", "A.js": "", "a.js": "", "src/it's.js": "",
+        "tsconfig.json": '{"compilerOptions": {"paths": {"@/*": ["./src/*"]}}}', "src/x.js": "",
+    }
+
+    def setUp(self):
+        room = tempfile.TemporaryDirectory()
+        self.addCleanup(room.cleanup)
+        self.room = room.name
+        for path, text in self.FILES.items():
+            place = os.path.join(self.room, path)
+            os.makedirs(os.path.dirname(place), exist_ok=True)
+            with open(place, "w", encoding="utf-8") as file:
+                file.write(text)
+        with open(os.path.join(self.room, "src/m.wasm"), "wb") as file:
+            file.write(b"\0asm\x01\0\0\0\x02\x0c\x01\x06./x.js\x01f\0\0")
+
+    def vendored(self, *words):
+        return ran("vendor", "-o", "out", "--external", "https://*", *words, "src/main.ts", cwd=self.room)
+
+    def read(self, path):
+        with open(os.path.join(self.room, "out", path), "rb") as file:
+            return file.read().decode()
+
+    def test_files(self):
+        self.assertEqual(self.vendored("--kind", "all")[:2], (0, "14 files; out/src/main.ts\n"))
+        self.assertEqual(self.read("src/main.ts"), "/// <reference path=\"./types.d.ts\" />\nimport \"./a.ts\"; import \"./d/index.js\"; import \"../node_modules/p/lib/x.mjs\"; import \"node:fs\"; import j from \"./j.json\" with { type: 'json' };\n"
+                         "import \"./m.wasm\"; import type { T } from \"./t.ts\";\nimport \"../data/module.js\"; import \"https://h.test/x.js\"; export * from \"../A.js\"; import(\"../a-2.js\"); import \"./a.ts\"; import \"./it_s.js\"")
+        self.assertEqual(self.read("src/a.ts"), "\ufeff// é\nimport /* x */ \"./main.ts\"; const s = './main'")
+        self.assertEqual((self.read("data/module.js"), self.read("a-2.js")), ("export {}", ""))
+        status, out, _ = ran("graph", "--json", "--folder", "out", "--external", "https://*", "out/src/main.ts", cwd=self.room)
+        states = [entry["state"] for entry in json.loads(out)["modules"]]
+        self.assertEqual((status, sorted(set(states)), states.count("module")), (0, ["external", "module"], 14))
+
+    def test_only_code(self):
+        self.assertEqual(self.vendored()[:2], (0, "12 files; out/src/main.ts\n"))
+        self.assertFalse(os.path.exists(os.path.join(self.room, "out/src/t.ts")))
+
+    def test_the_folder_is_not_there_yet(self):
+        os.mkdir(os.path.join(self.room, "out"))
+        self.assertEqual(self.vendored()[0], 0)
+        status, _, errors = self.vendored()
+        self.assertEqual(status, 2)
+        self.assertTrue(errors.endswith("out: it is there, and isn't an empty folder\n"))
+
+    def test_causes(self):
+        with open(os.path.join(self.room, "src/main.ts"), "w", encoding="utf-8") as file:
+            file.write("import './gone.ts';\nimport 'none'; import './bad.js'")
+        with open(os.path.join(self.room, "src/bad.js"), "w", encoding="utf-8") as file:
+            file.write("import {")
+        status, out, _ = self.vendored()
+        self.assertEqual((status, out.splitlines()), (1, [
+            "src/bad.js: its module is in error: Parse", 'src/main.ts:1:8: "./gone.ts": there is no such module in the bundle', 'src/main.ts:2:8: "none": it doesn\'t resolve: ImportPrefixMissing']))
+        self.assertFalse(os.path.exists(os.path.join(self.room, "out")))
+
+    def test_names(self):
+        rows = [("file:///a b/é.js", "JavaScript", "a_b/_.js"), ("https://h.test:8/x?y=1", "TypeScript", "h.test_8/x_y_1.ts"), ("https://h.test/", "JavaScript", "h.test.js"), ("file:///a.js", "TypeScript", "a.js.ts"),
+                ("file:///..%2f/x.d.ts", "Dts", ".._/x.d.ts"), ("data:text/javascript,1", "JavaScript", "data/module.js"), ("file:///%2e%2e/%2E/y.ts", "TypeScript", "_/_/y.ts")]
+        for specifier, media, name in rows:
+            found = vendoring.wanted_name(report.Entry(specifier, f"module {media} 1"))
+            self.assertEqual(found, name)
+            self.assertEqual(os.path.normpath(found), found)
+
+
 class Diff(unittest.TestCase):
     def setUp(self):
         room = tempfile.TemporaryDirectory()
@@ -239,7 +307,7 @@ class Usage(unittest.TestCase):
             self.assertRegex(done.stdout, rf"^{re.escape(os.path.basename(words[0]))} {re.escape(kit.VERSION)} \(.*program.*\)\n$")
 
     def test_each_command_has_help(self):
-        for name in ("check", "graph", "unread", "why", "imports", "diff", "man", "completions"):
+        for name in ("check", "graph", "unread", "why", "vendor", "imports", "diff", "man", "completions"):
             status, out, errors = ran(name, "--help")
             self.assertEqual((status, errors), (0, ""), name)
             self.assertIn(f"usage: joravelsu {name} ", out)
