@@ -3,7 +3,7 @@ ghost use Rattle.std.specs.Prelude.{◌≡◌, ◌<◌, Some, None, length, slic
 ghost use Rattle.once_cell.specs.Once.{cell_name};
 ghost use Rattle.graph_entry.specs.Specifier.{text_of};
 ghost use Rattle.shared_analyses.specs.Shared.{IsOf};
-ghost use Rattle.shared_analyses.specs.Answered.{IsRight, IsKeptAs};
+ghost use Rattle.shared_analyses.specs.Answered.{IsRight, IsKeptAs, IsMade, IsPair, Learns, Tells};
 
 use crate::kept::{Kept, keep};
 use crate::same::is_same;
@@ -86,7 +86,9 @@ impl SharedAnalyses {
         // What a note knows stays, and it is answered again, without memory.
         ensures stays { IfSome note.old.note.known (λ k. note.new.note.known ≡ Some k) }
         ensures kept { IfSome note.old.note.known (λ k. IfSome (slice_get self.now.answers i)
-            (λ p. k.specifier ≡ p.0 → k.answer ≡ p.1 → IsOkAnd result (IsKeptAs k.entry))) }
+            (λ p. IsPair k p → IsOkAnd result (IsKeptAs k.entry))) }
+        // With an answer it knows what the slot keeps: the `i`-th pair where the slot's entry is answered, else another one.
+        ensures learns { IfOk result (λ r. IfSome (slice_get self.now.answers i) (λ p. Learns p note.new.note.known r)) }
     {
         let alloc = self.alloc;
         let answers = self.answers.as_slice();
@@ -121,8 +123,8 @@ fn shown<'a>(
     answer: &LoadAnswer,
 ) -> Result<SharedEntry<'a>, AllocError>
     ensures right { IfOk result (IsRight (specifier.now, answer.now)) }
-    ensures kept { kept.now.specifier ≡ specifier.now → kept.now.answer ≡ answer.now
-        → IsOkAnd result (IsKeptAs kept.now.entry) }
+    ensures kept { IsPair kept.now (specifier.now, answer.now) → IsOkAnd result (IsKeptAs kept.now.entry) }
+    ensures tells { IfOk result (Tells (specifier.now, answer.now) kept.now) }
 {
     if kept.specifier != *specifier {
         return own(alloc, specifier, answer);
@@ -140,6 +142,7 @@ fn own<'a>(
     answer: &LoadAnswer,
 ) -> Result<SharedEntry<'a>, AllocError>
     ensures right { IfOk result (IsRight (specifier.now, answer.now)) }
+    ensures made { IfOk result IsMade }
 {
     match answer.copy() {
         Ok(copy) => match analyse(alloc, specifier, copy) {
