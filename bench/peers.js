@@ -9,9 +9,11 @@ const resolving = { extensions, conditionNames: ["import", "module", "default"],
 Object.defineProperty(process, "config", { value: { variables: { ...process.config.variables, node_prefix: "", node_relative_path: "none" } } });
 
 function webpack() {
+  const room = fs.mkdtempSync("/tmp/joravelsu-peers-");
+  process.on("exit", () => fs.rmSync(room, { recursive: true }));
   const parser = { javascript: { commonjs: false, amd: false, system: false, requireContext: false, requireEnsure: false, requireInclude: false, url: false, worker: false } };
   const compiler = require("webpack")({
-    mode: "none", target: "node", context: asked.folder, entry: root, output: { path: fs.mkdtempSync("/tmp/joravelsu-peers-") },
+    mode: "none", target: "node", context: asked.folder, entry: root, output: { path: room },
     resolve: resolving, module: { parser }, optimization: { minimize: false, concatenateModules: false, sideEffects: false }, performance: false, stats: "none",
   });
   return new Promise((done, failed) => compiler.run((error, stats) => {
