@@ -15,15 +15,15 @@ LOADER.exec_module(gate)
 BELOW = {"low": set(), "side": {"low"}, "high": {"low", "side", "url"}, "alone": set()}
 ROWS = {
     ("low", "earlier", "kit a"): ([3, 40, 0, 0, 0, 0, 0], "one machine"),
-    ("low", "2026-11-28", "kit b"): ([3, 120, 125, 0, 2, 5, 30], "another"),
+    ("low", "2026-11-28", "kit b"): ([3, 160, 125, 0, 2, 5, 30], "another"),
     ("side", "2026-11-28", "kit b"): ([1, 7, 0, 0, 0, 0, 0], "another"),
-    ("high", "earlier", "kit a"): ([2, 96, 0, 4, 0, 0, 0], "one machine"),
+    ("high", "earlier", "kit a"): ([2, 96, 0, 60, 0, 0, 0], "one machine"),
 }
 
 
 class Gate(unittest.TestCase):
     def test_the_latest_day_counts(self):
-        self.assertEqual(gate.latest(ROWS)["low"][1], 120)
+        self.assertEqual(gate.latest(ROWS)["low"][1], 160)
 
     def test_the_longest_chain_takes_the_clock_where_it_was_read(self):
         chain = gate.longest_chain(BELOW, gate.latest(ROWS))
@@ -39,11 +39,11 @@ class Gate(unittest.TestCase):
         out = io.StringIO()
         gate.tables(list(BELOW), BELOW, ROWS, out)
         first, second = out.getvalue().split("### earlier, kit a")
-        self.assertIn("| `low` | 3 | 120 |  |", first)
+        self.assertIn("| `low` | 3 | 160 |  |", first)
         self.assertNotIn("| `side` |", first)
-        self.assertIn("| all 2 crates | 4 | 127 | 0 |", first)
+        self.assertIn("| all 2 crates | 4 | 167 | 0 |", first)
         self.assertNotIn("`low` | 3", second)
-        self.assertIn("| `high` | 2 | 96 | 4 |", second)
+        self.assertIn("| `high` | 2 | 96 | 60 |", second)
         self.assertIn("Not read off: `alone`.", second)
 
 
