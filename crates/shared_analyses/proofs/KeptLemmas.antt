@@ -38,7 +38,7 @@ other_specifier k s a h is =
 
 pub other_answer : (k : Kept) (s : Parts) (a : LoadAnswer) (same : Bool) → (IsTrue same ↔ (k.answer ≡ a)) → same ≡ false
     → IsPair k (s, a) → ⊥
-other_answer k s a same is no pair = let yes : same ≡ true = is.1 pair.1 in cc
+other_answer k s a same is differs pair = let yes : same ≡ true = is.1 pair.1 in cc
 
 -- else it is the same pair
 pub same_pair : (k : Kept) (s : Parts) (a : LoadAnswer) → bytes_eq (serialize k.specifier) (serialize s) ≡ true
