@@ -73,7 +73,7 @@ enum {
     JORAVELSU_DYNAMIC_DEFER = 11 /* import.defer("a") */
 };
 
-/* Whether a site has an import attribute `type`, as in import a from "a" with { type: "json" }. */
+/* Whether a site has an import attribute `type`, such as import a from "a" with { type: "json" }. */
 enum {
     JORAVELSU_NO_ATTRIBUTE = 0,
     JORAVELSU_UNKNOWN_ATTRIBUTE = 1, /* the text doesn't say: so for import-equals and comments, and for import() whose
@@ -98,7 +98,7 @@ enum {
     JORAVELSU_UNBALANCED = 7
 };
 
-/* A place where a source names another module. An end is the place behind the last byte. */
+/* A place where a source names another module. An end is the place after the last byte. */
 typedef struct joravelsu_site {
     uint32_t kind;      /* JORAVELSU_IMPORT or another of its list */
     bool type_only;     /* by `type`, or as a comment, so that nothing is loaded when the program runs */
@@ -148,7 +148,7 @@ typedef struct joravelsu_rewrite_answer {
     size_t place;       /* where the fault is, else 0 */
 } joravelsu_rewrite_answer;
 
-/* A name that a source exports, or a module whose names it exports again: where its text stands in the buffer for values, in
+/* A name that a source exports, or a module whose names it re-exports: where its text is in the buffer for values, in
  * UTF-8, not ended by a 0. */
 typedef struct joravelsu_name {
     size_t start;
@@ -158,7 +158,7 @@ typedef struct joravelsu_name {
 /* What joravelsu_exports answers beside its buffers. */
 typedef struct joravelsu_exports_answer {
     size_t exports;     /* how many names the text exports: the first records */
-    size_t reexports;   /* how many modules' names it exports again: the records behind these. The buffer for names must hold both */
+    size_t reexports;   /* how many modules' names it re-exports: the records after these. The buffer for names must hold both */
     size_t value_bytes; /* how many bytes all of these have: what the buffer for values must hold */
     uint32_t fault;     /* the lexical fault at JORAVELSU_LEXICAL_FAULT, else 0 */
     size_t place;       /* where the fault is, else 0 */
@@ -182,11 +182,11 @@ uint32_t joravelsu_build(const uint8_t *bundle, size_t bundle_length, uint8_t *b
  * imports, exports with from, import-equals, and import(), import.source() and import.defer() of a literal. They are those
  * that the graph has edges of.
  *
- * text, text_length: the source in UTF-8. A byte order mark in front is passed over, and places count from behind it.
+ * text, text_length: the source in UTF-8. A byte order mark in front is skipped, and places count from after it.
  * media_type: JORAVELSU_TYPESCRIPT or another of its list.
  * sites, sites_length: a record for each site is written here; the length counts records.
- * values, values_length: the values of all sites are written here, one behind the other, each with its attribute's text
- *   behind it.
+ * values, values_length: the values of all sites are written here, one after the other, each followed by its
+ *   attribute's text.
  * answer: always written; where a buffer is too small, it says what both must hold.
  *
  * Answers JORAVELSU_DONE, or why nothing was written into the buffers: JORAVELSU_NO_MEDIA_TYPE before _NOT_READ, _TOO_LONG,
@@ -196,17 +196,17 @@ uint32_t joravelsu_sites(const uint8_t *text, size_t text_length, uint32_t media
                          size_t sites_length, uint8_t *values, size_t values_length, joravelsu_answer *answer);
 
 /* The calls of a source text that may load a module and are no sites, in the order of the text: what else a permission
- * check has to look at. They are told by the tokens alone, whether these are a program or not.
+ * check has to look at. They are found by the tokens alone, whether these are a program or not.
  *
- * A call is the word import or require, or import.source or import.defer, with a bracket right behind it that has something
+ * A call is the word import or require, or import.source or import.defer, followed directly by a bracket that has something
  * in it, other than
- * - import("a") and import("a", b), in any phase, where a string literal alone is the first argument;
+ * - import("a") and import("a", b), in any phase, whose first argument is a string literal alone;
  * - import a = require("b") and import type a = require("b"), with a on the line of the word before it;
- * - the word behind . or ?. or function;
- * - the word with a: in front in its bracket, which is a method's parameter with its type;
- * - the word with { behind its bracket, on the line where that closes, unless extends or new stands in front of the word:
+ * - the word after . or ?. or function;
+ * - the word whose bracket begins with a: , a method's parameter with its type;
+ * - the word with { after its bracket, on the line where that closes, unless extends or new precedes the word:
  *   a method.
- * No name is looked up: a require that the text declares itself counts too. Calls of another form, as require?.("a"),
+ * No name is looked up: a require that the text declares itself counts too. Calls of another form, such as require?.("a"),
  * (require)("a"), module.require("a") or those of another name for require, don't.
  *
  * text, text_length: as for joravelsu_sites.
@@ -219,7 +219,7 @@ uint32_t joravelsu_sites(const uint8_t *text, size_t text_length, uint32_t media
 uint32_t joravelsu_unread(const uint8_t *text, size_t text_length, joravelsu_call *calls, size_t calls_length,
                           joravelsu_unread_answer *answer);
 
-/* A source text with other specifiers at some of its sites. The literal of each of these gives way to one in double quotes;
+/* A source text with other specifiers at some of its sites. The literal of each of these is replaced by one in double quotes;
  * all else stays byte for byte, but for a byte order mark in front, which isn't written. The new text is read as the old one,
  * and has its sites, moved by what the literals before them gained and lost.
  *
@@ -238,16 +238,16 @@ uint32_t joravelsu_rewrite(const uint8_t *text, size_t text_length, uint32_t med
                            size_t changes_length, const uint8_t *values, size_t values_length, uint8_t *buffer,
                            size_t buffer_length, joravelsu_rewrite_answer *answer);
 
-/* The names that a source text exports, and the modules whose names it exports again.
+/* The names that a source text exports, and the modules whose names it re-exports.
  *
  * text, text_length, media_type: as for joravelsu_sites.
  * common_js: 0 for what a module of ECMAScript exports at run time, in the order of its items, each as often as it is exported:
- *   a script has none. Another number for what a module of CommonJS exports, as far as its text tells: names that are assigned
+ *   a script has none. Another number for what a module of CommonJS exports, as far as its text says: names that are assigned
  *   to exports or module.exports, and those of Object.defineProperty, ascending by bytes, each once, but for getters that may do
  *   something; docs/EMBEDDING.md lists the forms.
- * names, names_length: a record for each name is written here, those of the modules behind the others; the length counts
+ * names, names_length: a record for each name is written here, those of the modules after the others; the length counts
  *   records.
- * values, values_length: the texts of all names are written here, one behind the other.
+ * values, values_length: the texts of all names are written here, one after the other.
  * answer: always written; where a buffer is too small, it says what both must hold.
  *
  * Answers JORAVELSU_DONE, or why nothing was written into the buffers: as joravelsu_sites, in its order.
