@@ -15,7 +15,7 @@ use std::thread;
 use url::Url;
 
 /// So often an analysis looks whether another has begun.
-const TURNS: u32 = 1_000_000;
+const TURNS: u32 = 100_000;
 
 /// Finds no sites, and only while another analysis runs.
 #[derive(Drop)]
