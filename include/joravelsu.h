@@ -1,8 +1,8 @@
 /* Module graphs and import sites of JavaScript and TypeScript. Link with -ljoravelsu.
  *
  * Each call works on its arguments alone: it keeps no state, never ends the process, and may be called from several
- * threads at a time, on buffers that no other call has at that time. It takes memory by malloc and frees all of it before it
- * returns. It may not be called from a signal handler.
+ * threads at a time, on buffers and handles that no other call has at that time. It takes memory by malloc and frees all of it
+ * before it returns, but for what the handle of a graph keeps. It may not be called from a signal handler.
  *
  * Buffers are the caller's. No pointer is NULL, also where its length is 0 (any address will do then); a buffer and an out
  * parameter share no byte with another argument. All lengths and places count bytes, from 0.
@@ -37,9 +37,23 @@ enum {
     JORAVELSU_NO_VALUE = 12,       /* rewrite: a change's specifier isn't in the buffer of values, or is no UTF-8 */
     JORAVELSU_NO_SITE = 13,        /* rewrite: no site has the number of a change */
     JORAVELSU_NO_LITERAL = 14,     /* rewrite: the site of a change stands in a comment */
-    JORAVELSU_NO_ORDER = 15        /* rewrite: the number of a change isn't above that of the change before it; for these
+    JORAVELSU_NO_ORDER = 15,       /* rewrite: the number of a change isn't above that of the change before it; for these
                                       four the answer says which change, and nothing was written */
+    JORAVELSU_NOT_YET = 16,        /* graph: some requests have no answer yet, so there is no graph yet */
+    JORAVELSU_ENDED = 17,          /* graph: an earlier poll ended without a graph */
+    JORAVELSU_NO_GRAPH = 18,       /* graph: the handle has none: it is zeroed, or was freed */
+    JORAVELSU_NONE_WANTED = 19,    /* graph: each request from that number on is answered */
+    JORAVELSU_NOT_ASKED = 20,      /* graph: no request has this number */
+    JORAVELSU_ANSWERED = 21,       /* graph: the request was answered before; the first answer counts */
+    JORAVELSU_NO_ANSWER = 22,      /* graph: no kind of answer has this number */
+    JORAVELSU_NO_URL = 23,         /* graph: a redirect's target is no URL */
+    JORAVELSU_NO_ENTRY = 24,       /* graph: no entry has this number */
+    JORAVELSU_NO_TEXT = 25,        /* graph: the entry is no module of text, or no character begins at the place */
+    JORAVELSU_HAS_GRAPH = 26       /* graph: the handle has a graph; it keeps it */
 };
+
+/* Where there is no number. */
+#define JORAVELSU_NONE SIZE_MAX
 
 /* Media types. Sources are all but JSON and WebAssembly. */
 enum {
@@ -55,7 +69,17 @@ enum {
     JORAVELSU_CJS = 9,
     JORAVELSU_JSX = 10,
     JORAVELSU_JSON = 11,
-    JORAVELSU_WASM = 12
+    JORAVELSU_WASM = 12,
+    /* of no module; a graph's entries name them */
+    JORAVELSU_JSONC = 13,
+    JORAVELSU_JSON5 = 14,
+    JORAVELSU_CSS = 15,
+    JORAVELSU_HTML = 16,
+    JORAVELSU_MARKDOWN = 17,
+    JORAVELSU_SQL = 18,
+    JORAVELSU_SOURCE_MAP = 19,
+    JORAVELSU_UNKNOWN_TYPE = 20,
+    JORAVELSU_NO_TYPE = 21       /* there is none to name */
 };
 
 /* How a site names the other module. */
@@ -66,7 +90,8 @@ enum {
     JORAVELSU_DYNAMIC = 3,       /* import("a") */
     JORAVELSU_REFERENCE_PATH = 4,/* the comment /// <reference path="a" />, in TypeScript */
     JORAVELSU_REFERENCE_TYPES = 5,/* the comment /// <reference types="a" />, in TypeScript */
-    /* 6 and 7 are kinds of edges that stand in no source */
+    JORAVELSU_WASM_IMPORT = 6,   /* an import of a WebAssembly module: of a graph's edges alone */
+    /* 7 is a kind of edge that is in no module */
     JORAVELSU_IMPORT_SOURCE = 8, /* import source a from "a" */
     JORAVELSU_IMPORT_DEFER = 9,  /* import defer * as a from "a" */
     JORAVELSU_DYNAMIC_SOURCE = 10,/* import.source("a") */
@@ -164,6 +189,100 @@ typedef struct joravelsu_exports_answer {
     size_t place;       /* where the fault is, else 0 */
 } joravelsu_exports_answer;
 
+/* A graph whose loads the caller does: a handle. A zeroed one, JORAVELSU_GRAPH_INIT, has no graph. It may be moved by
+ * assignment; two copies may not both be used. No call that uses it runs at the same time as another one; several threads may
+ * take turns, ordered by a lock or a join, and two handles know nothing of each other. */
+typedef struct joravelsu_graph {
+    bool live;  /* don't touch */
+    void *at;
+} joravelsu_graph;
+#define JORAVELSU_GRAPH_INIT { false, NULL }
+
+/* Kinds of answers. */
+enum {
+    JORAVELSU_CONTENT = 0,  /* the bytes are the module's */
+    JORAVELSU_REDIRECT = 1, /* the bytes are the URL at which the module is, in UTF-8 */
+    JORAVELSU_EXTERNAL = 2, /* the module isn't part of the graph's sources */
+    JORAVELSU_ABSENT = 3,   /* there is no such module */
+    JORAVELSU_FAILED = 4    /* the loader couldn't say */
+};
+
+/* What joravelsu_graph_wanted answers beside its buffer. */
+typedef struct joravelsu_wanted {
+    size_t number;      /* that of the request; JORAVELSU_NONE where there is none */
+    size_t needed;      /* how many bytes its specifier has */
+} joravelsu_wanted;
+
+/* What an entry of a graph is. */
+enum {
+    JORAVELSU_MODULE = 0,
+    JORAVELSU_REDIRECTED = 1,
+    JORAVELSU_PACKAGE = 2,
+    JORAVELSU_EXTERNAL_ENTRY = 3,
+    JORAVELSU_ERROR = 4
+};
+
+/* Why an entry is no module. */
+enum {
+    JORAVELSU_MISSING = 1,
+    JORAVELSU_LOADING = 2,
+    JORAVELSU_TOO_MANY_REDIRECTS = 3,
+    JORAVELSU_UNSUPPORTED_MEDIA_TYPE = 4,
+    JORAVELSU_DECODE = 5,
+    JORAVELSU_PARSE = 6,
+    JORAVELSU_WASM_PARSE = 7,
+    JORAVELSU_DATA_URL = 8,
+    JORAVELSU_PACKAGE_REFERENCE = 9
+};
+
+/* Why an edge has no target. */
+enum {
+    JORAVELSU_IMPORT_PREFIX_MISSING = 1,
+    JORAVELSU_INVALID_URL = 2,
+    JORAVELSU_INVALID_DOWNGRADE = 3,
+    JORAVELSU_INVALID_LOCAL_IMPORT = 4,
+    JORAVELSU_INVALID_TYPE_ASSERTION = 5,
+    JORAVELSU_INVALID_SOURCE_PHASE = 6,
+    JORAVELSU_REFUSED = 7   /* by the import map */
+};
+
+/* An entry of a graph. Its texts stand in the buffer for texts: first its specifier, then where it redirects to, then those of
+ * its edges. */
+typedef struct joravelsu_entry {
+    uint32_t state;         /* JORAVELSU_MODULE or another of its list */
+    uint32_t media_type;    /* of a module, or of what is refused for it; else JORAVELSU_NO_TYPE */
+    uint32_t fault;         /* at JORAVELSU_ERROR why; else 0 */
+    size_t place;           /* at JORAVELSU_PARSE the byte of the text where the fault is; else 0 */
+    size_t size;            /* how many bytes a module has, without a byte order mark */
+    size_t specifier_end;
+    size_t target_end;      /* where it redirects to, or at JORAVELSU_TOO_MANY_REDIRECTS to where first */
+    size_t target;          /* the number of that entry, or JORAVELSU_NONE */
+    size_t edges;           /* how many edges it has: what the buffer for edges must hold */
+    size_t text_bytes;      /* how many bytes all of its texts have: what the buffer for texts must hold */
+} joravelsu_entry;
+
+/* An edge of an entry. */
+typedef struct joravelsu_edge {
+    uint32_t kind;          /* JORAVELSU_IMPORT or another of its list */
+    bool type_only;
+    size_t start;           /* the string literal in the module's text, with its quotes; of WebAssembly the name in its bytes */
+    size_t end;
+    size_t value_start;     /* its value in the buffer for texts, then the text of its attribute, then its target */
+    size_t value_end;
+    uint32_t attribute;     /* JORAVELSU_NO_ATTRIBUTE or another of its list */
+    size_t attribute_end;
+    size_t target_end;
+    size_t target;          /* the number of its target's entry; JORAVELSU_NONE where it has none, as an edge that isn't
+                               followed may have */
+    uint32_t fault;         /* why it has no target, or 0 */
+} joravelsu_edge;
+
+/* A place as people count it, both from 1: columns count characters. */
+typedef struct joravelsu_place {
+    size_t line;
+    size_t column;
+} joravelsu_place;
+
 /* The version of the library: 10,000 times its first number, 100 times its second, and its third; 100 is 0.1.0. */
 uint32_t joravelsu_version(void);
 
@@ -255,6 +374,78 @@ uint32_t joravelsu_rewrite(const uint8_t *text, size_t text_length, uint32_t med
 uint32_t joravelsu_exports(const uint8_t *text, size_t text_length, uint32_t media_type, uint32_t common_js,
                            joravelsu_name *names, size_t names_length, uint8_t *values, size_t values_length,
                            joravelsu_exports_answer *answer);
+
+/* ---- A graph whose loads the caller does
+ *
+ * joravelsu_graph g = JORAVELSU_GRAPH_INIT;
+ * joravelsu_graph_new(.., &g, ..);
+ * while (joravelsu_graph_poll(&g, &seen) == JORAVELSU_NOT_YET)
+ *     for (size_t n = 0; joravelsu_graph_wanted(&g, n, name, sizeof name, &wanted) == JORAVELSU_DONE; n = wanted.number + 1)
+ *         joravelsu_graph_answer(&g, wanted.number, ..);     (some or all of them, in any order, now or later)
+ * for (size_t n = 0; joravelsu_graph_entry(&g, n, ..) == JORAVELSU_DONE; n++) ..
+ * joravelsu_graph_free(&g);
+ *
+ * No call calls back, waits or keeps an argument: it copies what it needs. A call on a handle without a graph answers
+ * JORAVELSU_NO_GRAPH and changes nothing. */
+
+/* Begins a graph in a handle that has none.
+ *
+ * settings, settings_length: a bundle as JSON (docs/REPORT.md): its roots, kind, limit, skipDynamicDeps, imports and importMap.
+ *   It needs "modules": []; modules and their arrival are passed over, since the caller loads them. It may have any length.
+ * line, line_length: at JORAVELSU_BAD_BUNDLE why is written here, as joravelsu_build writes it, if it fits.
+ * needed: the length of that line, else 0.
+ *
+ * Answers JORAVELSU_DONE, _BAD_BUNDLE, _NO_MEMORY or _HAS_GRAPH. */
+uint32_t joravelsu_graph_new(const uint8_t *settings, size_t settings_length, joravelsu_graph *graph, uint8_t *line,
+                             size_t line_length, size_t *needed);
+
+/* Asks for all that is reached by the answers so far, and builds the graph once each request is answered.
+ *
+ * seen: at JORAVELSU_TOO_MANY_MODULES how many specifiers were counted, else 0.
+ *
+ * Answers JORAVELSU_DONE: the graph is there, now and at each later poll. JORAVELSU_NOT_YET: some requests have no answer.
+ * JORAVELSU_TOO_MANY_MODULES or _NO_MEMORY: it has ended; later polls answer JORAVELSU_ENDED. */
+uint32_t joravelsu_graph_poll(joravelsu_graph *graph, size_t *seen);
+
+/* The first request from a number on that has no answer yet. Requests are numbered from 0 in the order in which polls made
+ * them, and no specifier is asked for twice.
+ *
+ * buffer, buffer_length: its specifier, a URL, is written here, not ended by a 0.
+ * wanted: always written: the number, and the specifier's length.
+ *
+ * Answers JORAVELSU_DONE, _NO_ROOM or _NONE_WANTED. */
+uint32_t joravelsu_graph_wanted(joravelsu_graph *graph, size_t from, uint8_t *buffer, size_t buffer_length,
+                                joravelsu_wanted *wanted);
+
+/* Answers a request. The next poll takes it.
+ *
+ * number: that of joravelsu_graph_wanted.
+ * kind: JORAVELSU_CONTENT or another of its list.
+ * bytes, bytes_length: the module, or the redirect's target.
+ * content_type, content_type_length: of a module the value of its header content-type, the one that a graph reads; length 0
+ *   where there is none.
+ *
+ * Answers JORAVELSU_DONE, or why nothing changed: JORAVELSU_NO_ANSWER, or _NO_UTF8 or _NO_URL of a header or a target, before
+ * _NOT_ASKED or _ANSWERED; JORAVELSU_NO_MEMORY at any time. */
+uint32_t joravelsu_graph_answer(joravelsu_graph *graph, size_t number, uint32_t kind, const uint8_t *bytes,
+                                size_t bytes_length, const uint8_t *content_type, size_t content_type_length);
+
+/* An entry of the graph. Entries are numbered from 0, in the order in which they were reached: the different roots first.
+ *
+ * edges, edges_length: a record for each of its edges is written here, in the order of the text; the length counts records.
+ * texts, texts_length: its texts are written here.
+ * entry: always written; where a buffer is too small, it says what both must hold, and neither is written.
+ *
+ * Answers JORAVELSU_DONE, _NOT_YET, _NO_ENTRY, _NO_ROOM or _NO_MEMORY. */
+uint32_t joravelsu_graph_entry(joravelsu_graph *graph, size_t number, joravelsu_edge *edges, size_t edges_length,
+                               uint8_t *texts, size_t texts_length, joravelsu_entry *entry);
+
+/* Line and column of a byte in the text of an entry's module: of an edge's start, or of a fault's place. It looks through the
+ * text once. At another answer than JORAVELSU_DONE both are 0: JORAVELSU_NOT_YET, _NO_TEXT or _NO_MEMORY. */
+uint32_t joravelsu_graph_place(joravelsu_graph *graph, size_t number, size_t place, joravelsu_place *shown);
+
+/* Gives back all memory of a graph, built or not; the handle has none then. */
+void joravelsu_graph_free(joravelsu_graph *graph);
 
 #ifdef __cplusplus
 }

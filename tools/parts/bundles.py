@@ -18,6 +18,11 @@ class NoBundle(Exception):
     """Why the input is no bundle, in one line."""
 
 
+def has_content(module):
+    """Whether a module of a bundle has its content, as text, as base64, or as the bytes of a file."""
+    return "bytes" in module or "text" in module or "base64" in module
+
+
 class Bundle:
     def __init__(self, data):
         try:
@@ -42,6 +47,8 @@ class Bundle:
         if specifier.startswith("data:"):
             return held_by(specifier)
         module = self.modules.get(specifier, {})
+        if "bytes" in module:
+            return module["bytes"]
         if "text" in module:
             return module["text"].encode("utf-8", "surrogatepass")
         if "base64" in module:

@@ -5,7 +5,7 @@ import json
 import os
 import sys
 
-from parts import bundles, config, faults, kit, packing, program, project, records, report, resolve, sites, unproved
+from parts import builder, bundles, config, faults, kit, packing, program, project, records, report, resolve, sites, unproved
 from parts.words import Wrong, plain, read_regular
 from parts.words import say as said
 
@@ -27,9 +27,9 @@ def front_of(folder):
     return "" if path == "." else path + "/"
 
 
-def made_program():
-    """The program; that it is the unproved one is said."""
-    made = program.Program("joravelsu")
+def made_program(loader=None):
+    """The library, or the program where there is no library; that it is unproved is said."""
+    made = builder.found(loader) or program.Program("joravelsu")
     if not made.proved:
         unproved.say_unproved("joravelsu")
     return made
@@ -43,11 +43,18 @@ class Run:
         self.paths = []
         self.configure(choices)
         asked.roots = list(self.roots(asked.roots or [asked.folder or project.named_above(os.getcwd())]))
-        self.program = made_program()
+        self.program = made_program(asked.loader)
         packer, roots = self.packed()
         self.front = front_of(asked.folder)
-        self.data, self.reasons = kit.tool("pack").finished(packer, roots)
-        status, self.report = self.program.report(self.data)
+        self.reasons = packer.reasons
+        packer.tell()
+        if packer.reader.reads_ahead:
+            data = packer.bundle(roots).encode()
+            packer.refuse_size(len(data))
+            status, self.report = self.program.report(data)
+        else:
+            modules = packer.modules()
+            status, self.report = self.program.graph(packer.settings(roots, len(modules)), modules)
         if status:
             raise Wrong(f"there is no graph: {self.report.decode().strip()}")
         self.bundle = bundles.Bundle.of_contents(packer.by_specifier())
@@ -89,7 +96,7 @@ class Run:
         folders = [os.path.abspath(self.asked.folder)] if self.asked.folder else project.folders_of(self.paths)
         kept = None if self.asked.no_cache else records.Records(self.program)
         for number, folder in enumerate(folders):
-            packer, roots = packing.packed(self.settled(folder), sites.Reader(self.program, kept, self.asked.check_cache), sys.stderr)
+            packer, roots = packing.packed(self.settled(folder), self.program.reader(self.program, kept, self.asked.check_cache), sys.stderr)
             if not packer.leads_out or number == len(folders) - 1:
                 break
             say(f"{plain(packer.leads_out[0])} leads out of {plain(os.path.relpath(folder))}: {plain(os.path.relpath(folders[number + 1]))} is packed instead")
@@ -115,20 +122,19 @@ class Run:
 class Imports:
     """The imports of one file, as the program reads it."""
 
-    def __init__(self, path, language):
+    def __init__(self, path, language, loader=None):
         self.name = path if path != "-" else STANDARD_INPUT
         data = sys.stdin.buffer.read() if path == "-" else read_regular(path)
         ending = language or (sites.ending_of(path) if path != "-" else ".ts")
         if ending not in (*sites.SOURCES, *resolve.DECLARATIONS, ".wasm"):
             raise Wrong(f"{plain(path)}: a file with this extension has no imports; --as .ts reads it as TypeScript")
         self.specifier = f"file:///module{ending}"
-        module = {"specifier": self.specifier, **packing.content_of(self.specifier, data)}
-        self.program = made_program()
-        bundle = json.dumps({"roots": [self.specifier], "limit": 1_000_000, "modules": [module]}, ensure_ascii=False).encode("utf-8", "surrogatepass")
-        status, told = self.program.report(bundle)
+        self.program = made_program(loader)
+        content = self.program.reader.content_of(self.specifier, data)
+        status, told = self.program.graph({"roots": [self.specifier], "limit": 1_000_000}, [{"specifier": self.specifier, **content}])
         if status:
             raise Wrong(f"{plain(path)}: {told.decode().strip()}")
-        self.graph, self.bundle = report.graph_of(told), bundles.Bundle(bundle)
+        self.graph, self.bundle = report.graph_of(told), bundles.Bundle.of_contents({self.specifier: content})
         self.entry = self.graph.entries[self.specifier]
 
     def fault(self):

@@ -6,6 +6,7 @@ import os
 import re
 import shutil
 import subprocess
+import sys
 import tempfile
 
 ROOT = os.path.dirname(os.path.dirname(os.path.dirname(os.path.abspath(__file__))))
@@ -118,7 +119,11 @@ def tool(name):
     path = os.path.join(ROOT, "tools", name)
     loader = importlib.machinery.SourceFileLoader(name.replace("-", "_"), path)
     module = importlib.util.module_from_spec(importlib.util.spec_from_loader(loader.name, loader))
-    loader.exec_module(module)
+    keeps_no_code = sys.dont_write_bytecode  # a tool that is run by itself sets it
+    try:
+        loader.exec_module(module)
+    finally:
+        sys.dont_write_bytecode = keeps_no_code
     return module
 
 

@@ -61,6 +61,7 @@ def built():
 
 def loaded(path):
     """The module of Python over the library at a path."""
+    before = os.environ.get("JORAVELSU_LIBRARY")
     os.environ["JORAVELSU_LIBRARY"] = path
     spec = importlib.util.spec_from_file_location("joravelsu", MODULE)
     module = importlib.util.module_from_spec(spec)
@@ -68,4 +69,9 @@ def loaded(path):
         spec.loader.exec_module(module)
     except (ImportError, AttributeError) as failed:
         raise NoLibrary(f"{failed}") from failed
+    finally:
+        if before is None:
+            del os.environ["JORAVELSU_LIBRARY"]
+        else:
+            os.environ["JORAVELSU_LIBRARY"] = before
     return module

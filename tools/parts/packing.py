@@ -1,5 +1,4 @@
 """Bundles of folders: which files the graph of some roots has, and where each of their specifiers leads."""
-import base64
 import collections
 import json
 import os
@@ -54,16 +53,6 @@ def in_order(place):
     """A key by which the files of a folder come before its folders."""
     *folders, name = place.split("/")
     return [*((1, folder) for folder in folders), (0, name)]
-
-
-def content_of(place, data):
-    """What a bundle has for a file."""
-    try:
-        if not place.lower().endswith(".wasm"):
-            return {"text": data.decode("utf-8")}
-    except UnicodeDecodeError:
-        pass
-    return {"base64": base64.b64encode(data).decode("ascii")}
 
 
 class Resolver:
@@ -212,6 +201,7 @@ class Packer:
         self.takes_any = "*" in asked.also
         self.contents = {}  # what the bundle would have for each file that was read
         self.sizes = {}
+        self.why = {}
         self.sites = {}
         self.taken = set()  # the files of the bundle
         self.of_data = set()  # the data: URLs that were walked
@@ -229,6 +219,11 @@ class Packer:
 
     def why_left_out(self, place):
         """Why a file is no module of the bundle, or None."""
+        if place not in self.why:
+            self.why[place] = self.found_why_left_out(place)
+        return self.why[place]
+
+    def found_why_left_out(self, place):
         if not is_utf8(place):
             return "its name is no UTF-8"
         if resolve.is_left_out(place, self.asked.exclude):
@@ -241,9 +236,9 @@ class Packer:
         """Reads a file, where that wasn't done yet."""
         if place in self.contents:
             return
-        data = read_regular(self.folder.path(place))
+        data = read_regular(self.folder.path(place), self.reader.most)
         self.sizes[place] = len(data)
-        self.contents[place] = content_of(place, data)
+        self.contents[place] = self.reader.content_of(place, data)
 
     def take(self, places):
         """Packs these files and all to which the graph leads from them."""
@@ -255,7 +250,7 @@ class Packer:
                     self.load(place)
                     self.taken.add(place)
                     size += self.sizes[place]
-                    self.refuse_size(size)
+                    self.refuse_size(size, self.reader.most)
                     progress.tell(len(self.taken), size)
                 self.read_sites(new)
                 waiting = [found for place in new for found in self.named_by(place)]
@@ -269,7 +264,11 @@ class Packer:
             return
         for place in unread:
             self.sites[place] = ()
-        ahead, size = list(unread), sum(self.sizes.values())
+        self.sites.update(self.reader.read({place: self.contents[place] for place in [*unread, *self.likely_below(unread)]}))
+
+    def likely_below(self, places):
+        """The files that these likely lead to, and so on, which are read now; their sites aren't known yet."""
+        ahead, size = list(places) if self.reader.reads_ahead else [], sum(self.sizes.values())
         while ahead and size <= MOST_BYTES:
             place = ahead.pop()
             for value in sites.hints_in(self.contents[place].get("text", "")) if sites.is_source(place) else ():
@@ -277,9 +276,8 @@ class Packer:
                 if found and found not in self.sites and self.why_left_out(found) is None and self.may_load(found):
                     self.sites[found] = ()
                     size += self.sizes[found]
-                    unread.append(found)
                     ahead.append(found)
-        self.sites.update(self.reader.read({place: self.contents[place] for place in unread}))
+                    yield found
 
     def likely(self, place, value):
         """The file that a text in a file likely names; what is wrong with it counts only where the program says that it is an import."""
@@ -416,23 +414,31 @@ class Packer:
         """What the bundle has for each module, by its specifier."""
         return {urls.of_file(place): self.contents[place] for place in sorted(self.taken, key=in_order)}
 
-    def bundle(self, roots):
+    def modules(self):
+        """The modules of the bundle."""
         modules = [{"specifier": specifier, **content} for specifier, content in self.by_specifier().items()]
         taken = {module["specifier"] for module in modules}
         modules += [{"specifier": url, "redirect": to} for url, to in sorted(self.redirects.items()) if url not in taken]
-        modules += [{"specifier": url, "external": True} for url in sorted(self.external) if url not in taken]
+        return modules + [{"specifier": url, "external": True} for url in sorted(self.external) if url not in taken]
+
+    def settings(self, roots, count):
+        """What else the bundle has, beside so many modules."""
         value = {"roots": roots}
         if self.asked.kind:
             value["kind"] = self.asked.kind
-        if len(modules) > USUAL_LIMIT // 2:
-            value["limit"] = min(1_000_000, 100 * len(modules))
+        if count > USUAL_LIMIT // 2:
+            value["limit"] = min(1_000_000, 100 * count)
         if self.types:
             value["imports"] = [{"referrer": urls.of_file(code), "imports": ["./" + urls.of_file(types).rpartition("/")[2]]}
                                 for code, types in sorted(self.types.items())]
         rows = self.import_map()
         if rows["imports"]:
             value["importMap"] = {"base": "file:///", "map": rows}
-        return text_of(value, modules)
+        return value
+
+    def bundle(self, roots):
+        modules = self.modules()
+        return text_of(self.settings(roots, len(modules)), modules)
 
     def tell(self):
         """What was left out, and which bare specifiers lead nowhere: of very many those that most files name."""
@@ -455,12 +461,12 @@ class Packer:
         if count > MOST_TOLD:
             say("pack", f"{count - MOST_TOLD:,} more {one if count == MOST_TOLD + 1 else many}")
 
-    def refuse_size(self, size):
-        if size <= MOST_BYTES:
+    def refuse_size(self, size, most=MOST_BYTES):
+        if size <= most:
             return
         largest = sorted(self.taken, key=lambda place: -self.sizes[place])[:LARGEST]
         rows = "".join(f"\n  {self.sizes[place]:>12,}  {plain(place)}" for place in largest)
-        raise Wrong(f"too large: {size:,} bytes, and the program reads at most {MOST_BYTES:,}; --exclude leaves out; the largest of {len(self.taken):,} files:{rows}")
+        raise Wrong(f"too large: {size:,} bytes, and the program reads at most {most:,}; --exclude leaves out; the largest of {len(self.taken):,} files:{rows}")
 
 
 def text_of(value, modules):

@@ -5,7 +5,7 @@ import subprocess
 import sys
 
 from parts import kit as kits
-from parts import unproved
+from parts import sites, unproved
 
 # The statuses of docs/REPORT.md at which a report was written.
 REPORT = 0
@@ -18,6 +18,8 @@ class NoProgram(Exception):
 
 
 class Program:
+    reader = sites.Reader
+
     def __init__(self, who):
         """The program: of a release, the proved one, or the same compiled without its proofs, which `who` reports."""
         try:
@@ -35,6 +37,11 @@ class Program:
         if ran.returncode not in (0, 1, 2):
             raise NoProgram(f"the program gave no report: {REASONS.get(ran.returncode, f'status {ran.returncode}')}")
         return ran.returncode, ran.stdout
+
+    def graph(self, settings, modules):
+        """The status and the report of the graph of a bundle, by its modules and what else it has."""
+        value = {**settings, "modules": modules}
+        return self.report(json.dumps(value, ensure_ascii=False).encode("utf-8", "surrogatepass"))
 
     def which_are_read(self, specifier, texts):
         """Of each text whether it is a program of the grammar, as a module of this specifier's ending."""

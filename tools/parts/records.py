@@ -35,7 +35,8 @@ class Records:
     @staticmethod
     def key(place, content):
         kind, value = next(iter(content.items()))
-        return hashlib.sha256(f"{ending_of(place)}\n{kind}\n{value}".encode("utf-8", "surrogatepass")).hexdigest()
+        data = value if isinstance(value, bytes) else value.encode("utf-8", "surrogatepass")
+        return hashlib.sha256(f"{ending_of(place)}\n{kind}\n".encode() + data).hexdigest()
 
     def get(self, place, content):
         """The sites of a text, or None where nothing is kept of it."""

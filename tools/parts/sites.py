@@ -1,5 +1,7 @@
 """Where the texts of files name other modules, as the program reads them: many files in one call."""
+import base64
 import collections
+import functools
 import json
 import re
 
@@ -11,6 +13,8 @@ SOURCES = (".ts", ".mts", ".cts", ".tsx", ".js", ".mjs", ".cjs", ".jsx")
 TYPESCRIPT = (".ts", ".mts", ".cts", ".tsx")
 # How many bytes of texts one call of the program takes: written as JSON they may be six times as many.
 PART = 4_000_000
+# Of so many names it is known what their endings say.
+MOST_NAMES = 100_000
 # What likely names a module; only to read ahead, so that few calls are needed.
 HINT = re.compile(r"""\b(?:from|import)[\s(]{0,20}(?:"([^"\\\n]{1,500})"|'([^'\\\n]{1,500})')""")
 
@@ -22,10 +26,12 @@ def is_source(place):
     return place.lower().endswith(SOURCES)
 
 
+@functools.lru_cache(MOST_NAMES)
 def is_declaration(place):
     return place.lower().endswith(DECLARATIONS)
 
 
+@functools.lru_cache(MOST_NAMES)
 def is_typescript(place):
     return place.lower().endswith(TYPESCRIPT)
 
@@ -53,6 +59,16 @@ def is_followed(kind, place, site):
     return True
 
 
+def content_of(place, data):
+    """What a bundle has for a file."""
+    try:
+        if not place.lower().endswith(".wasm"):
+            return {"text": data.decode("utf-8")}
+    except UnicodeDecodeError:
+        pass
+    return {"base64": base64.b64encode(data).decode("ascii")}
+
+
 class Reader:
     """Asks the program for the sites of files."""
 
@@ -62,6 +78,11 @@ class Reader:
         self.records = records
         self.compares = compares
         self.of_data = {}  # of each data: URL that is met, those of what it holds
+
+    # Whether files that are likely reached are read ahead, so that few calls are needed; and the most bytes of all files.
+    reads_ahead = True
+    most = MOST_BYTES
+    content_of = staticmethod(content_of)
 
     def read(self, contents):
         """The sites of each file, by place, of a dictionary from places to what the bundle has for them."""

@@ -319,6 +319,17 @@ fn call_each(rt: &HostRuntime) {
     let _ = joravelsu_rewrite(rt.alloc(), b"", 3, &[], b"", &mut [], &mut made);
     let mut exported = ExportsAnswer { exports: 0, reexports: 0, value_bytes: 0, fault: 0, place: 0 };
     let _ = joravelsu_exports(rt.alloc(), b"", 3, 0, &mut [], &mut [], &mut exported);
+    let mut held = graph::nothing();
+    let mut wanted = Wanted { number: 0, needed: 0 };
+    let mut entry = graph_session::no_entry();
+    let mut place = PlaceRecord { line: 0, column: 0 };
+    let _ = joravelsu_graph_new(rt.alloc(), b"", &mut held, &mut [], &mut needed);
+    let _ = joravelsu_graph_poll(rt.alloc(), &mut held, &mut needed);
+    let _ = joravelsu_graph_wanted(rt.alloc(), &mut held, 0, &mut [], &mut wanted);
+    let _ = joravelsu_graph_answer(rt.alloc(), &mut held, 0, 0, b"", b"");
+    let _ = joravelsu_graph_entry(rt.alloc(), &mut held, 0, &mut [], &mut [], &mut entry);
+    let _ = joravelsu_graph_place(rt.alloc(), &mut held, 0, 0, &mut place);
+    joravelsu_graph_free(rt.alloc(), &mut held);
 }
 """
 # Behind this line of the program the calls are made; where it has none, at the front of its main.
@@ -375,7 +386,7 @@ def with_calls_visible(module, kit, room):
     if status:
         raise Unable(said[-2000:])
     made = os.path.join(room, "calls.ll")
-    named = re.compile(rf'@"{LIBRARY}::(joravelsu_[a-z]+)"')
+    named = re.compile(rf'@"{LIBRARY}::(joravelsu_[a-z_]+)"')
     with open(text, encoding="latin-1") as given, open(made, "w", encoding="latin-1") as file:
         for line in given:
             if LIBRARY in line:

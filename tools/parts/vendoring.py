@@ -128,11 +128,11 @@ class Plan:
     # ---- the files
 
     def bundle_of_files(self, kind, content_of):
-        """A bundle of the files, of which the program says whether their graph is the old one."""
+        """A bundle of the files, of which the program says whether their graph is the old one: its settings, and its modules."""
         modules = [{"specifier": "file:///" + name, **content_of(name, data)} for name, data in self.files.items()]
         modules += [{"specifier": entry.specifier, "external": True} for entry in self.graph.entries.values() if entry.kind() == "external"]
         roots = list(dict.fromkeys(self.new_name(root) for root in self.graph.roots))
-        return json.dumps({"roots": roots, **({"kind": kind} if kind else {}), "limit": 1_000_000, "modules": modules}, ensure_ascii=False).encode("utf-8", "surrogatepass")
+        return {"roots": roots, **({"kind": kind} if kind else {}), "limit": 1_000_000}, modules
 
     def new_name(self, specifier):
         end = self.graph.end_of(specifier)

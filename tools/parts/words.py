@@ -90,11 +90,13 @@ def read_regular(path, most=MOST_BYTES):
     """The bytes of a regular file of at most so many; nothing else is read, and nothing waits."""
     try:
         number = os.open(path, os.O_RDONLY | os.O_NONBLOCK | os.O_CLOEXEC)
-        with os.fdopen(number, "rb") as file:
+        try:
             found = os.fstat(number)
             if not stat.S_ISREG(found.st_mode):
-                raise Wrong(f"{plain(path)}: {'a folder' if stat.S_ISDIR(found.st_mode) else 'not a regular file'}")
-            data = file.read(most + 1) if found.st_size <= most else b""
+                raise Wrong(f"{plain(path)}: {'Is a directory' if stat.S_ISDIR(found.st_mode) else 'not a regular file'}")
+            data = read_through(number, found.st_size, most) if found.st_size <= most else b""
+        finally:
+            os.close(number)
     except OSError as error:
         raise Wrong(f"{plain(path)}: {error.strerror}") from error
     except ValueError as error:  # a name with a null character
@@ -102,6 +104,19 @@ def read_regular(path, most=MOST_BYTES):
     if found.st_size > most or len(data) > most:
         raise Wrong(f"{plain(path)}: too large: {max(found.st_size, len(data)):,} bytes, and at most {most:,} are read")
     return data
+
+
+def read_through(number, size, most):
+    """The bytes of an open file that has so many, and at most one byte more than the most."""
+    data = os.read(number, size + 1)
+    if len(data) == size:
+        return data
+    parts, count = [data], len(data)  # it has changed, or so many aren't read at once
+    while data and count <= most:
+        data = os.read(number, min(most + 1 - count, 1 << 20))
+        parts.append(data)
+        count += len(data)
+    return b"".join(parts)
 
 
 def bytes_of(path):

@@ -1,7 +1,6 @@
 """The tools on folders of strangers: nothing outside is read, nothing takes long, nothing ends in a traceback, and nothing
 reaches the terminal raw."""
 import contextlib
-import io
 import json
 import os
 import subprocess
@@ -272,24 +271,16 @@ class Lines(Strangers):
         with open(os.path.join(self.folder, "large.js"), "wb") as file:
             file.truncate(209_715_200)
         self.put("main.ts", "import './large.js'")
-        with mock.patch("os.fdopen", side_effect=self.with_no_read):
+        with mock.patch("os.read", side_effect=lambda *_: self.fail("it is read")):
             with self.assertRaisesRegex(words.Wrong, "large.js: too large: 209,715,200 bytes, and at most 16,777,216 are read$"):
                 words.read_regular(os.path.join(self.folder, "large.js"))
-        self.assertEqual(self.refused(), "joravelsu: large.js: too large: 209,715,200 bytes, and at most 16,777,216 are read")
-
-    def with_no_read(self, number, mode):
-        file = io.open(number, mode)
-        found = mock.MagicMock(wraps=file)
-        found.__enter__ = lambda it: it
-        found.__exit__ = lambda *_: file.close()
-        found.read = lambda *_: self.fail("it is read")
-        return found
+        self.assertEqual(self.refused("--loader", "program", "main.ts"), "joravelsu: large.js: too large: 209,715,200 bytes, and at most 16,777,216 are read")
 
     def test_what_is_too_large_in_all(self):
         for name, count in (("a.js", 9_000_000), ("b.js", 8_000_000)):
             self.put(name, "/" + "/" * count)
         self.put("main.ts", "import './a.js'; import './b.js'")
-        status, _, errors = self.ran("check", "--folder", ".", "main.ts")
+        status, _, errors = self.ran("check", "--loader", "program", "--folder", ".", "main.ts")
         self.assertEqual(status, 2)
         self.assertRegex(errors[0], "^joravelsu: too large: 17,000,0[0-9]{2} bytes, and the program reads at most 16,777,216; --exclude leaves out; the largest of 3 files:$")
         self.assertEqual(errors[1:3], ["     9,000,001  a.js", "     8,000,001  b.js"])

@@ -24,7 +24,7 @@ pub fn seen(text: &str, tokens: &[Token], turn: &Item<'_>) -> Result<Look, Alloc
     }
 }
 
-/// Whether an expression doesn't stand behind `...`, with its properties, where it is an object.
+/// Whether an expression doesn't follow `...`, with its properties, if it is an object.
 #[tactic(auto, using(crate::proofs::ArgumentForms::props_plain, crate::proofs::ArgumentForms::props_object, crate::proofs::ArgumentForms::props_paren, crate::proofs::ArgumentForms::props_number, crate::proofs::ArgumentForms::props_sequence, crate::proofs::ArgumentForms::props_spread, crate::proofs::ArgumentForms::props_function, crate::proofs::ArgumentForms::props_assigned))]
 fn props_at<'a>(text: &str, tokens: &[Token], it: &Item<'a>) -> Option<Option<Option<Siblings<'a>>>>
     ensures { IfSome result (λ props. HasProps text.now tokens.now props (expr_in (valued text.now tokens.now it.now))) }
@@ -42,7 +42,7 @@ fn props_at<'a>(text: &str, tokens: &[Token], it: &Item<'a>) -> Option<Option<Op
     }
 }
 
-/// Whether an argument doesn't stand behind `...`, with its properties, where it is an object.
+/// Whether an argument doesn't follow `...`, with its properties, if it is an object.
 #[tactic(auto, using(crate::proofs::ArgumentForms::described_spread, crate::proofs::ArgumentForms::described))]
 pub fn descriptor<'a>(
     text: &str,

@@ -1,4 +1,4 @@
-//! Callees: what a callee looks like, or what stands behind the zero of `(0, a)`.
+//! Callees: what a callee looks like, or what follows the zero of `(0, a)`.
 
 ghost use Rattle.std.specs.Prelude.{◌≡◌, IfSome, slice_get};
 ghost use Rattle.es_lowering.specs.Value.{turns, expr_at};
@@ -48,7 +48,7 @@ fn zero_at(text: &str, tokens: &[Token], it: &Item<'_>) -> Option<bool>
     }
 }
 
-/// What stands behind the zero in a sequence of these; the outer none where a part is unknown.
+/// What follows the zero in a sequence of these; the outer none where a part is unknown.
 #[tactic(auto, using(crate::proofs::Callees::pairs_more, crate::proofs::Callees::pairs_zero, crate::proofs::Callees::pairs_other))]
 fn pair_second<'a>(
     text: &str,
@@ -73,7 +73,7 @@ fn pair_second<'a>(
     }
 }
 
-/// What stands behind the zero of `0, a`; the outer none where no view knows the expression.
+/// What follows the zero of `0, a`; the outer none where no view knows the expression.
 #[tactic(auto, using(crate::proofs::Callees::behind_plain, crate::proofs::Callees::behind_object, crate::proofs::Callees::behind_paren, crate::proofs::Callees::behind_number, crate::proofs::Callees::behind_sequence, crate::proofs::Callees::behind_spread, crate::proofs::Callees::behind_function, crate::proofs::Callees::behind_assigned))]
 fn second_at<'a>(text: &str, tokens: &[Token], it: &Item<'a>) -> Option<Option<Item<'a>>>
     ensures { IfSome result (λ answer. Gives behind_in (expr_in (valued text.now tokens.now it.now)) (handed text.now tokens.now answer)) }

@@ -6,7 +6,7 @@
 //! - `assigned`, `pattern_assigned`: what an assignment by `=` adds (`assigned`).
 //! - `bound`: what a declarator adds (`bound`).
 //!
-//! Not promised: that a call fails for want of memory alone; it fails too at an item that the views don't know.
+//! Not promised: that a call fails only when memory runs out; it fails too at an item that the views don't know.
 #![tactic(auto)]
 
 mod arguments;

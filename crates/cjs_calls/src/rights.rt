@@ -20,7 +20,7 @@ use es_token::{Token, TokenKind};
 use es_view_expressions::operator::{Operator, operator_at};
 use std::alloc::AllocError;
 
-/// What a property adds by what stands behind `...`.
+/// What a property adds by what follows `...`.
 #[tactic(auto, using(crate::proofs::RightForms::spreads_some, crate::proofs::RightForms::spreads_none))]
 fn spread_of(
     found: &mut Found,

@@ -130,7 +130,7 @@ fn chain_look(text: &str, tokens: &[Token], it: &Item<'_>) -> Option<Look>
     }
 }
 
-/// What a chain looks like with all of these parts behind it.
+/// What a chain looks like with all of these parts after it.
 #[tactic(auto, using(crate::proofs::Links::posts_all, crate::proofs::Links::posts_next, crate::proofs::Links::posts_done))]
 #[cycle(looks)]
 fn posts_look(text: &str, tokens: &[Token], before: Look, posts: &Siblings<'_>) -> Option<Look>
@@ -183,7 +183,7 @@ pub fn post_look(text: &str, tokens: &[Token], before: Look, it: &Item<'_>) -> O
     }
 }
 
-/// What a chain looks like with a name behind a dot.
+/// What a chain looks like with a name after a dot.
 #[tactic(auto, using(crate::proofs::Links::makes_private, crate::proofs::Links::makes_dotted, crate::proofs::Links::makes_no_token))]
 fn dotted(tokens: &[Token], before: Look, name: u32) -> Look
     ensures { (x : List ℕ) (r : Range) → Makes (Looks (look_of x tokens.now before)) (Linked (look_of x tokens.now result)) (member x r (slice_get tokens.now name)) }
@@ -255,7 +255,7 @@ fn first_look(text: &str, tokens: &[Token], args: &Item<'_>) -> Option<Look>
     }
 }
 
-/// What an argument looks like: nothing, behind `...`.
+/// What an argument looks like: `Other` after `...`.
 #[tactic(auto, using(crate::proofs::Args::tells_spread, crate::proofs::Args::tells_argument))]
 #[cycle(looks)]
 pub fn argument_look(text: &str, tokens: &[Token], turn: &Item<'_>) -> Option<Look>

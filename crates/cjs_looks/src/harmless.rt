@@ -116,7 +116,7 @@ fn function_harmless(it: &Item<'_>) -> Option<bool>
     }
 }
 
-/// Whether a chain is harmless with all of these parts behind it.
+/// Whether a chain is harmless with all of these parts after it.
 #[tactic(auto, using(crate::proofs::Harms::posts_all, crate::proofs::Harms::posts_next, crate::proofs::Harms::posts_done))]
 #[cycle(harmless)]
 fn posts_harmless(text: &str, tokens: &[Token], before: bool, posts: &Siblings<'_>) -> Option<bool>

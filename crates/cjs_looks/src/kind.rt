@@ -32,7 +32,7 @@ pub enum Body<'a> {
     Block(Item<'a>),
     /// A block, which may be absent.
     May(Siblings<'a>),
-    /// What stands behind `=>`.
+    /// What follows `=>`.
     Arrow(Item<'a>),
 }
 
@@ -53,7 +53,7 @@ pub enum Kind<'a> {
         second: Item<'a>,
         others: Siblings<'a>,
     },
-    /// What stands behind `...`.
+    /// What follows `...`.
     Spread,
     Function(Body<'a>),
     /// An assignment by `=`, of this.

@@ -52,7 +52,7 @@ impl Look {
         }
     }
 
-    /// As what stands in brackets behind an object.
+    /// As the key in brackets after an object.
     #[tactic(auto, using(crate::proofs::Keys::bracket_required))]
     pub fn key(self) -> Key
         ensures { (x : List ℕ) (ts : List Tok) → key_of x ts result ≡ bracket (look_of x ts self) }

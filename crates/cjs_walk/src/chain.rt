@@ -27,7 +27,7 @@ use es_token::Token;
 use es_view_expressions::call::{Post, post_at};
 use std::alloc::AllocError;
 
-/// How far a chain was scanned: what stands by now looks so, so as a callee, and a call counted or not.
+/// A chain as far as it was scanned: what it looks like, also as a callee, and whether a call counted.
 #[derive(Clone, Copy)]
 pub struct Along {
     pub seen: Look,

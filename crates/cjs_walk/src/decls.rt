@@ -87,7 +87,7 @@ fn using_declarators<'a>(
     queue(next, Task::Each(Each::Declarators, *others))
 }
 
-/// What variables add and leave, behind `declare` or not.
+/// What variables add and leave, after `declare` or not.
 #[tactic(auto, using(crate::proofs::VarForms::var_variables, crate::proofs::VarForms::using_variables))]
 fn variables<'a>(
     found: &mut Found,

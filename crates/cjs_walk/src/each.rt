@@ -39,7 +39,7 @@ fn turn_of<'a>(next: &mut Items<Task<'a>>, kind: Each, turn: &Item<'a>) -> Resul
     }
 }
 
-/// What a list leaves: its first turn, and the turns behind that.
+/// What a list leaves: its first turn, and the turns after that.
 #[tactic(auto, using(crate::proofs::EachForms::each_none, crate::proofs::EachForms::each_more))]
 pub fn each_of<'a>(
     next: &mut Items<Task<'a>>,

@@ -2,7 +2,7 @@
 //!
 //! - `walk`: what the tasks of a stack add to what is found.
 //!
-//! No function calls itself: a deep program takes memory, not the machine's stack.
+//! No function calls itself: a deep program needs heap, not the machine's stack.
 #![tactic(auto)]
 
 mod assign;

@@ -14,7 +14,7 @@ use es_syntax::{Item, What};
 use es_view_expressions::call::Post;
 use std::alloc::AllocError;
 
-/// What stands behind `?.` leaves: an index, arguments; of a name nothing.
+/// What the part after `?.` leaves: an index, arguments; a name leaves nothing.
 #[tactic(auto, using(crate::proofs::PostForms::optional_index, crate::proofs::PostForms::optional_call, crate::proofs::PostForms::optional_name, crate::proofs::PostForms::optional_absent))]
 fn optional<'a>(next: &mut Items<Task<'a>>, inner: &Item<'a>) -> Result<(), AllocError>
     ensures { OnOk result ((x : List ℕ) (ts : List Tok) (r : Range) → PartsOf x ts (optioned x ts r (valued x ts inner.now)) next.old next.new) }

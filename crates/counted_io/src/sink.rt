@@ -7,7 +7,7 @@ use crate::source::Failed;
 
 /// What takes bytes.
 pub trait Sink {
-    // The bytes that the sink has taken, where it tells them.
+    // The bytes that the sink has taken, if it reports them.
     ghost taken: { Self → Option (List ℕ) };
 
     // How many writes have failed so far.

@@ -12,7 +12,7 @@ pub struct Failed;
 
 /// What gives bytes.
 pub trait Source {
-    // The bytes that reads will give from here on, where the source tells them.
+    // The bytes that reads will give from here on, if the source reports them.
     ghost left: { Self → Option (List ℕ) };
 
     // How many reads have failed so far.

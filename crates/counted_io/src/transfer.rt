@@ -61,7 +61,7 @@ fn blank(alloc: Global, size: usize) -> Result<Vec<u8>, AllocError>
     vec![in alloc; 0; size]
 }
 
-/// Reads once into the chunk, and puts what was given behind the bytes. 0 is the end.
+/// Reads once into the chunk, and appends what was given to the bytes. 0 is the end.
 fn take_part<S: Source>(
     source: &mut S,
     bytes: &mut Vec<u8>,

@@ -55,7 +55,7 @@ fn without_blanks(mut text: Vec<u8>) -> Vec<u8>
     text
 }
 
-// Padding may stand at the end where the length is a multiple of four.
+// Padding is allowed at the end where the length is a multiple of four.
 #[tactic(auto, unfolding(crate::specs::Forgiving::without_padding))]
 fn without_padding(mut digits: Vec<u8>) -> Vec<u8>
     ensures { result.items ≡ forgiving.without_padding digits.items }

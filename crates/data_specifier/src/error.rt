@@ -7,7 +7,7 @@ use thiserror::Error;
 /// Why a `data:` URL holds nothing.
 #[derive(Clone, Copy, Debug, PartialEq, Eq, PartialOrd, Ord, Hash, Error)]
 pub enum DataError {
-    /// No comma stands before the bytes.
+    /// No comma precedes the bytes.
     #[error("NoComma")]
     NoComma,
     /// The URL says that its bytes are in base64, and they aren't.

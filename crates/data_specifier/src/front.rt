@@ -23,7 +23,7 @@ fn is_base64_word(word: &[u8]) -> bool
     word.eq_ignore_ascii_case(b"base64")
 }
 
-/// The media type that the front tells, in lower case.
+/// The media type that the front gives, in lower case.
 #[tactic(auto, unfolding(crate::specs::Front::mime_of))]
 pub fn mime_of(alloc: Global, front: &str) -> Result<Text, AllocError>
     ensures { IfOk result (λ mime. mime ≡ spec.mime_of front.now) }
@@ -36,7 +36,7 @@ pub fn mime_of(alloc: Global, front: &str) -> Result<Text, AllocError>
     }
 }
 
-// A type and a subtype stand round the first `/`.
+// Whether a type and a subtype surround the first `/`.
 fn has_subtype(essence: &str) -> bool
     ensures { result ≡ spec.has_subtype essence.now }
 {

@@ -1,7 +1,7 @@
 //! What a `data:` URL holds (Fetch Standard, "`data:` URL processor").
 //!
-//! - `parse_data(url)`: the media type and the bytes that the URL's text tells (`data_of`, `specs/Data.antt`), or why it
-//!   tells none: exactly these, unless memory runs out. The escapes are read by `percent_encoding`, base64 by the strict
+//! - `parse_data(url)`: the media type and the bytes that the URL's text gives (`data_of`, `specs/Data.antt`), or why it
+//!   gives none: exactly these, unless memory runs out. The escapes are read by `percent_encoding`, base64 by the strict
 //!   engine of `base64`; the rules around them are here (`forgiving_base64`, `specs/Forgiving.antt`).
 //! - `DataModule::copy`: an equal value.
 //!

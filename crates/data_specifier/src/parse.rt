@@ -16,7 +16,7 @@ use url::Url;
 /// What the URL holds, if its scheme is `data`: the media type and the bytes (Fetch Standard, "`data:` URL processor").
 /// The fragment plays no part.
 ///
-/// - `NoComma`: no comma stands behind the scheme and before the fragment.
+/// - `NoComma`: no comma is after the scheme and before the fragment.
 /// - `Base64`: the text before the comma ends in `;base64`, and the bytes are no forgiving base64.
 pub fn parse_data(alloc: Global, url: &Url) -> Result<DataModule, DataError>
     requires { url.now.scheme ≡ codes "data" }
@@ -25,7 +25,7 @@ pub fn parse_data(alloc: Global, url: &Url) -> Result<DataModule, DataError>
     parse_data_text(alloc, url.as_str())
 }
 
-/// The same of the URL's text, for who tells its scheme by the text.
+/// The same of the URL's text, for callers that know its scheme by the text.
 #[tactic(auto, unfolding(crate::specs::Data::data_of))]
 pub fn parse_data_text(alloc: Global, text: &str) -> Result<DataModule, DataError>
     ensures { Gives result (data_of text.now) }
@@ -36,7 +36,7 @@ pub fn parse_data_text(alloc: Global, text: &str) -> Result<DataModule, DataErro
     }
 }
 
-// The text behind the scheme, less the fragment.
+// The text after the scheme, less the fragment.
 fn content_of(text: &str) -> &str
     ensures { result.now ≡ spec.content_of text.now }
 {

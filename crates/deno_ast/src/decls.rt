@@ -30,7 +30,7 @@ fn is_decl(item: ModuleItemRef<'_>) -> bool
     }
 }
 
-/// Whether an import or an export seems to stand outside all braces: a guess, from the end, which costs time alone where
+/// Whether an import or an export seems to be outside all braces: a guess, from the end, which only costs time where
 /// it is wrong.
 pub fn looks_like_module(tokens: &[Token]) -> bool {
     let mut next = TokenKind::Semicolon;

@@ -31,7 +31,7 @@ pub fn parse_program(alloc: Global, params: ParseParams) -> Result<ParsedSource,
     parse_in(alloc, without_bom(params), modes)
 }
 
-/// The same of a text as it stands, which has no byte order mark.
+/// The same of a text as it is, which has no byte order mark.
 pub fn parse_text(alloc: Global, params: ParseParams) -> Result<ParsedSource, ParseFault>
     ensures parsed { IfOk result (IsParsed (tree.modes_of params.media_type) params params.text) }
     ensures refused { IfErr result (Refuses (IsFault (tree.modes_of params.media_type) params params.text)) }

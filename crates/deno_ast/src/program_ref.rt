@@ -34,8 +34,8 @@ impl<'a> ProgramRef<'a> {
         }
     }
 
-    /// Whether the program is a script, or a module whose first item that tells is `import a = ..` or `export = a`.
-    /// Any other import or export tells that it is none; `export as namespace a` tells nothing.
+    /// Whether the program is a script, or a module whose first item that decides is `import a = ..` or `export = a`.
+    /// Any other import or export means that it is none; `export as namespace a` decides nothing.
     pub fn compute_is_script(self) -> bool
         ensures { result ≡ spec.is_script_by_items (tree_of self.entry).typed }
     {
@@ -65,7 +65,7 @@ impl<'a> ProgramRef<'a> {
         }
     }
 
-    /// The text behind `#!`.
+    /// The text after `#!`.
     pub fn shebang(self) -> Option<&'a str>
         ensures { MatchOption result (spec.shebang_of (tree_of self.entry).typed ≡ None)
             (λ text. spec.shebang_of (tree_of self.entry).typed ≡ Some text.now) }

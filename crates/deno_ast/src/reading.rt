@@ -30,7 +30,7 @@ pub struct Reading {
     pub comments: Items<Comment>,
 }
 
-/// The text of the parameters as it stands, read in the first of these modes in which it is a program.
+/// The text of the parameters as it is, read in the first of these modes in which it is a program.
 pub fn read_in(alloc: Global, params: &ParseParams, modes: Modes) -> Result<Reading, ParseFault>
     ensures read { IfOk result (IsReading (modes_in modes) params.now) }
     ensures refused { IfErr result (Refuses (IsFault (modes_in modes) params.now params.now.text)) }

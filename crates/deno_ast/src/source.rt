@@ -137,14 +137,14 @@ impl ParsedSource {
         self.inner.program.clone()
     }
 
-    /// The comments by the places where they stand.
+    /// The comments by the offsets that they are at.
     pub fn comments(&self) -> &MultiThreadedComments
         ensures { result.now ≡ self.now.comments }
     {
         &self.inner.comments
     }
 
-    /// The comments before the first item; with no item, those behind the shebang, or those of a text without tokens.
+    /// The comments before the first item; with no item, those after the shebang, or those of a text without tokens.
     pub fn get_leading_comments(&self) -> Option<&Vec<Comment>>
         ensures { option_map (λ v. v.now.items) result ≡ spec.leading_comments self.now }
     {
@@ -300,7 +300,7 @@ fn copy_ids(ids: &Option<ScopeIds>) -> Result<Option<ScopeIds>, AllocError>
     }
 }
 
-// The comments at the first item; with no item, those behind the shebang, or those at 0.
+// The comments at the first item; with no item, those after the shebang, or those at 0.
 fn leading_in<'a>(
     comments: &'a MultiThreadedComments,
     first: Option<ModuleItemRef<'_>>,

@@ -157,7 +157,7 @@ fn script_or(
     }
 }
 
-/// The script of what is no module, as was noticed at this token: where it is none either, that is told.
+/// The script of what isn't a module, as was noticed at this token; if it isn't a script either, that token is at fault.
 fn no_module(
     alloc: Global,
     lang: Lang,

@@ -4,7 +4,7 @@
 //! - `analyse(specifier, answer)`: the entry that a loader's answer makes (`Analysed` of `graph_entry`).
 //! - `analyse_unasked(specifier)`: the same where no loader is asked for the specifier.
 //!
-//! It stands on the readers of the grammar, so that `graph_entry` and the builder over it needn't.
+//! It depends on the readers of the grammar, so that `graph_entry` and the builder over it needn't.
 
 mod analysis;
 mod analyzer;

@@ -44,12 +44,13 @@ impl<L: Loader + Drop> GraphBuild<L> {
         let ways = DefaultWays::new(Following {
             kind,
             skip_dynamic_deps,
+            json_without_attribute: false,
         });
         let inner = Inner::new(alloc, ways, roots, imports, limit, loader)?;
         Ok(GraphBuild { inner })
     }
 
-    /// The same builder with a resolver of the caller's. It begins anew: the loader's lists count from now on.
+    /// The same builder with a resolver of the caller's. It starts again: the loader's lists count from now on.
     pub fn with_resolver<R: Resolver + Drop>(
         self,
         resolver: R,
@@ -67,7 +68,7 @@ impl<L: Loader + Drop> GraphBuild<L> {
         )
     }
 
-    /// The same builder with an analyser of the caller's. It begins anew: the loader's lists count from now on.
+    /// The same builder with an analyser of the caller's. It starts again: the loader's lists count from now on.
     pub fn with_analyzer<M: ModuleAnalyzer + Drop>(
         self,
         analyzer: M,
@@ -101,7 +102,7 @@ impl<L: Loader + Drop> GraphBuild<L> {
             (IsAskedFor (graph_rules self.old.inner) (starts self.old.inner) self.new.inner.asked self.new.inner.log) }
         ensures answered { OnOk result (EachAnswered self.new.inner.asked self.new.inner.log) }
         ensures limit { IfOk result (λ g. length g.entries ≤ self.old.inner.limit) }
-        // The different roots have the first numbers, in the order in which they first stand among the roots.
+        // The different roots have the first numbers, in the order in which they first appear among the roots.
         ensures firsts { IfOk result (λ g. GoesOn (different (texts self.old.inner.roots)) (texts g.numbered)) }
         ensures pending { OnOk result (self.new.inner.pending ≡ self.old.inner.pending) }
         // Why there is no graph.
@@ -154,7 +155,7 @@ impl<L: Loader + Drop> GraphBuild<L> {
             (IsAskedFor (graph_rules self.old.inner) (starts self.old.inner) self.new.inner.asked self.new.inner.log) }
         ensures answered { OnOk result (EachAnswered self.new.inner.asked self.new.inner.log) }
         ensures limit { IfOk result (λ g. length g.entries ≤ self.old.inner.limit) }
-        // The different roots have the first numbers, in the order in which they first stand among the roots.
+        // The different roots have the first numbers, in the order in which they first appear among the roots.
         ensures firsts { IfOk result (λ g. GoesOn (different (texts self.old.inner.roots)) (texts g.numbered)) }
         ensures pending { OnOk result (self.new.inner.pending ≡ self.old.inner.pending) }
         // Why there is no graph.

@@ -39,7 +39,7 @@ pub fn atomic_write_file<S: AtomicWriteFileSys>(
     write_file(alloc, sys, file_path, bytes, mode)
 }
 
-// The same, its calls told in one.
+// The same, with one clause for calls and files.
 pub fn write_file<S: AtomicWriteFileSys>(
     alloc: Global,
     sys: &mut S,

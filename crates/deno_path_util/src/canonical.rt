@@ -12,8 +12,8 @@ use std::alloc::{AllocError, Global};
 use std::path::PathBuf;
 use sys_traits::{FsCanonicalize, SysError, SysErrorKind};
 
-/// The real path of the longest path above this one that is there, with the other names behind it. A relative path
-/// that isn't there at all stands in the current folder.
+/// The real path of the longest path above this one that is there, with the other names after it. A relative path
+/// that isn't there at all is taken to be in the current folder.
 ///
 /// The refusal is answered, its message as it is, where it isn't `NotFound`, or where no name or no parent is left.
 pub fn canonicalize_path_maybe_not_exists<S: FsCanonicalize>(
@@ -28,7 +28,7 @@ pub fn canonicalize_path_maybe_not_exists<S: FsCanonicalize>(
     climb(alloc, sys, path)
 }
 
-// The same, its calls told in one.
+// The same, with one clause for calls and files.
 fn climb<S: FsCanonicalize>(alloc: Global, sys: &mut S, path: &str) -> Result<String, SysError>
     ensures counts { CountsFault (refusal_of result) (S.faults sys.old) (S.faults sys.new) }
     ensures tells { WhereTold (Quiet (IsClimbed path.now result)) (S.told sys.old) (S.told sys.new) }
@@ -62,7 +62,7 @@ fn climb<S: FsCanonicalize>(alloc: Global, sys: &mut S, path: &str) -> Result<St
     }
 }
 
-// The path with these names behind it, the last of them first.
+// The path with these names after it, the last of them first.
 fn with_names(path: String, names: Vec<&str>) -> Result<String, AllocError>
     ensures { IfOk result (λ s. string_bytes s ≡ joined_names (texts names.entry.items) (string_bytes path)) }
 {
@@ -74,7 +74,7 @@ fn with_names(path: String, names: Vec<&str>) -> Result<String, AllocError>
     Ok(joined)
 }
 
-// The path with this name behind it, in the same memory.
+// The path with this name after it, in the same memory.
 fn with_name(path: String, name: &str) -> Result<String, AllocError>
     ensures { IfOk result (λ s. string_bytes s ≡ joined_path (string_bytes path) name.now) }
 {

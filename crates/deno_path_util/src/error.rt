@@ -7,7 +7,7 @@ use base::Text;
 use std::alloc::{AllocError, Global};
 use sys_traits::{SysError, SysErrorKind};
 
-/// The error, with ` (for 'PATH')` and this end behind its message.
+/// The error, with ` (for 'PATH')` and this end after its message.
 pub fn named(alloc: Global, error: SysError, path: &str, end: &str) -> SysError
     ensures { IsNamed (naming path.now ++ end.now) error.kind error.message result.kind result.message }
 {

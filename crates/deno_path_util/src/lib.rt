@@ -1,4 +1,4 @@
-//! Specifiers, paths and files: what stands in `lexical_path`, `file_url` and `sys_traits`, by one name, and files that
+//! Specifiers, paths and files: the items of `lexical_path`, `file_url` and `sys_traits` by one name, and files that
 //! are replaced in one step.
 //!
 //! - `atomic_write_file(sys, path, bytes, mode)`: at no moment does the path read anything but its old content or the
@@ -6,15 +6,15 @@
 //!   order, and which refusal is answered: `IsWrite`, `specs/Course.antt`.
 //! - `atomic_write_file_with_retries(sys, path, bytes, mode)`: the same over six tries (`IsTried`, `specs/Tries.antt`).
 //! - `get_atomic_path(sys, path)`: the temporary path (`atomic_path`, `specs/Atomic.antt`).
-//! - `canonicalize_path_maybe_not_exists(sys, path)`: the real path of what is there, with the names that aren't behind it
+//! - `canonicalize_path_maybe_not_exists(sys, path)`: the real path of what is there, followed by the names that aren't
 //!   (`IsClimbed`, `specs/Climb.antt`).
 //! - Paths as texts: `normalize_path`, `join_path`, `path_in`, `file_name`, `parent`, `strip_unc_prefix` (`lexical_path`).
 //! - Paths and URLs: `url_from_file_path`, `url_to_file_path` and the like, `resolve_import`, `resolve_url_or_path`
 //!   (`file_url`); `is_relative_specifier`, `specifier_has_uri_scheme` (`lexical_path`).
 //! - The calls of a system as traits, and `InMemorySys`, a system in memory (`sys_traits`).
 //!
-//! The law and the calls are told by what the system tells of its files and its log; one that tells nothing is promised
-//! the causes of refusals alone. `OutOfMemory` is the one answer that no clause ties to a cause.
+//! The law and the calls are stated over what the system reports of its files and its log; of one that reports nothing,
+//! only the causes of refusals are promised. `OutOfMemory` is the one answer that no clause ties to a cause.
 #![tactic(auto)]
 
 mod atomic;

@@ -27,7 +27,7 @@ pub fn atomic_write_file_with_retries<S: AtomicWriteFileWithRetriesSys>(
     tried(alloc, sys, file_path, bytes, mode)
 }
 
-// The tries, their calls told in one.
+// The tries, with one clause for calls and files.
 fn tried<S: AtomicWriteFileWithRetriesSys>(
     alloc: Global,
     sys: &mut S,

@@ -13,7 +13,7 @@ use std::path::Path;
 use sys_traits::{SysError, SystemRandom};
 
 /// The path with its extension replaced by eight lower-case hexadecimal digits of four random bytes and `.tmp`. What
-/// stands behind the file name is dropped.
+/// follows the file name is dropped.
 pub fn get_atomic_path<S: SystemRandom>(
     alloc: Global,
     sys: &mut S,
@@ -28,7 +28,7 @@ pub fn get_atomic_path<S: SystemRandom>(
     temporary_path(alloc, sys, path)
 }
 
-// The same, its calls told in one.
+// The same, with one clause for calls and files.
 pub fn temporary_path<S: SystemRandom>(
     alloc: Global,
     sys: &mut S,

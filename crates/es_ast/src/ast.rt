@@ -12,14 +12,14 @@ pub enum Program {
 }
 
 pub struct Module {
-    /// The line behind `#!`, without them.
+    /// What follows `#!` on its line.
     pub shebang: Option<Text>,
     pub body: Items<ModuleItem>,
     pub span: Range,
 }
 
 pub struct Script {
-    /// The line behind `#!`, without them.
+    /// What follows `#!` on its line.
     pub shebang: Option<Text>,
     pub body: Items<Stmt>,
     pub span: Range,

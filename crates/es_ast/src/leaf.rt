@@ -99,7 +99,7 @@ pub struct ImportDecl {
 pub struct ExportSpecifier {
     pub type_only: bool,
     pub orig: ModuleExportName,
-    /// The name behind `as`, where there is one.
+    /// The name after `as`, if any.
     pub exported: Option<ModuleExportName>,
     pub span: Range,
 }
@@ -118,7 +118,7 @@ pub struct NamedExport {
 pub struct ExportAll {
     /// Whether `type` follows `export` as a modifier.
     pub type_only: bool,
-    /// The name behind `as`, where there is one.
+    /// The name after `as`, if any.
     pub exported: Option<ModuleExportName>,
     pub src: Str,
     pub with: Option<ImportAttributes>,
@@ -228,7 +228,7 @@ pub enum Accessibility {
     Private,
 }
 
-/// What stands before the name of a class's member or of a constructor's parameter.
+/// What precedes the name of a class's member or of a constructor's parameter.
 pub struct Modifiers {
     pub accessibility: Accessibility,
     pub is_static: bool,

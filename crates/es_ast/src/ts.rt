@@ -2,7 +2,7 @@
 //! expressions and statements.
 //!
 //! - `TsType` and its parts: one variant for each form of a type, plain data that contracts compare by value. No type
-//!   holds an expression, so these types stand by themselves, below the tree.
+//!   holds an expression, so these types are on their own, below the tree.
 //! - `TsPart`: what the tree of expressions and statements holds of types.
 //! - `Ident`, `Str`, `Number`, `BigInt`, `TplElement`: the leaves.
 //!

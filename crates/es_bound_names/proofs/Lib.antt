@@ -12,3 +12,5 @@ pub mod Forms
 pub mod Heads
 -- declarations
 pub mod DeclForms
+-- items that no view knows
+pub mod Others

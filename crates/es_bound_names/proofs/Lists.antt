@@ -7,6 +7,11 @@ use Rattle.es_lowering.specs.Value.{Value, nil, more, given, as_group, turns}
 use Rattle.es_bound_names.specs.Names.{Names}
 use Rattle.es_bound_names.specs.Adds.{Adds}
 
+-- a part that isn't there adds what it likes
+pub adds_nothing : {A : Type 0} (f : A → Names) (old new : Names) (o : Option A) → o ≡ None → Adds f old new o
+adds_nothing f old new None e = record { added = tt }
+adds_nothing f old new (Some a) e = let bad : ⊥ = cc in absurd bad
+
 pub adds_none : {A : Type 0} (f : A → Names) (old : Names) → Adds (flat_map f) old old (Some [])
 adds_none f old = record { added = sym (append-nil old) }
 

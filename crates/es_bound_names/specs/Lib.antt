@@ -2,3 +2,5 @@
 pub mod Names
 -- what a walk adds
 pub mod Adds
+-- where a text is cut
+pub mod Cuts

@@ -12,6 +12,7 @@ ghost use Rattle.es_syntax.specs.Held.{held, valued, there};
 ghost use Rattle.es_syntax.specs.Roles.{decl_in, declarable_in, declarator_in, variables_in, entity_in};
 ghost use Rattle.es_bound_names.specs.Names.{own_names, class_names, function_names, declarator_names, variables_names, entity_names, first_name, declared_names};
 ghost use Rattle.es_bound_names.specs.Adds.{Adds, decls_of};
+ghost use Rattle.es_bound_names.specs.Cuts.{IsCut};
 
 use crate::names::{Names, token_at};
 use crate::pats::{marked_names, part_in, pat_names};
@@ -25,39 +26,42 @@ use es_view_statements::decl::{
 };
 use es_view_types::names::{Entity, entity_at};
 
-/// A name that stands first in a group, which may be empty.
-#[tactic(auto, using(crate::proofs::Heads::adds_own_first, crate::proofs::Heads::adds_own_empty))]
+/// A name that is first in a group, which may be empty.
+#[tactic(auto, using(crate::proofs::Heads::adds_own_first, crate::proofs::Heads::adds_own_empty, crate::proofs::Others::own_lost))]
 fn first_token(out: &mut Names, text: &str, tokens: &[Token], row: &Siblings<'_>)
+    requires { IsCut text.now tokens.now }
     ensures before { out.new.failed ≡ false → out.old.failed ≡ false }
     ensures adds { out.new.failed ≡ false → Adds own_names out.old.found out.new.found (own_name_of text.now tokens.now (held text.now tokens.now row.now.entries.now)) }
 {
     match row.split() {
         Some((first, _)) => match first.token() {
             Some(token) => out.token(text, tokens, token),
-            None => out.fail(),
+            None => {}
         },
         None => {}
     }
 }
 
-/// A name that is a token, or stands first in a group.
-#[tactic(auto, using(crate::proofs::Heads::adds_own_token))]
+/// A name that is a token, or is first in a group.
+#[tactic(auto, using(crate::proofs::Heads::adds_own_token, crate::proofs::Others::own_node, crate::proofs::Others::own_role, crate::proofs::Others::own_leant))]
 fn name_in(out: &mut Names, text: &str, tokens: &[Token], it: &Item<'_>)
+    requires { IsCut text.now tokens.now }
     ensures before { out.new.failed ≡ false → out.old.failed ≡ false }
     ensures adds { out.new.failed ≡ false → Adds own_names out.old.found out.new.found (own_name_of text.now tokens.now (valued text.now tokens.now it.now)) }
 {
     match it.what {
         What::Leaf => out.token(text, tokens, it.from),
         What::Parts => first_token(out, text, tokens, &it.parts),
-        What::Node(_) => out.fail(),
-        What::Role(_) => out.fail(),
-        What::Lean(_) => out.fail(),
+        What::Node(_) => {}
+        What::Role(_) => {}
+        What::Lean(_) => {}
     }
 }
 
 /// The name of a function or a class, which may be absent.
 #[tactic(auto, using(crate::proofs::Heads::adds_own_none))]
 fn own_name(out: &mut Names, text: &str, tokens: &[Token], name: &Option<Item<'_>>)
+    requires { IsCut text.now tokens.now }
     ensures before { out.new.failed ≡ false → out.old.failed ≡ false }
     ensures adds { out.new.failed ≡ false → Adds own_names out.old.found out.new.found (own_name_of text.now tokens.now (there text.now tokens.now name.now)) }
 {
@@ -68,34 +72,37 @@ fn own_name(out: &mut Names, text: &str, tokens: &[Token], name: &Option<Item<'_
 }
 
 /// The name of a class.
-#[tactic(auto, using(crate::proofs::Heads::adds_plain_class, crate::proofs::Heads::adds_typed_class))]
+#[tactic(auto, using(crate::proofs::Heads::adds_plain_class, crate::proofs::Heads::adds_typed_class, crate::proofs::Lists::adds_nothing))]
 fn class_head(out: &mut Names, text: &str, tokens: &[Token], head: &ClassHead<'_>)
+    requires { IsCut text.now tokens.now }
     ensures before { out.new.failed ≡ false → out.old.failed ≡ false }
     ensures adds { out.new.failed ≡ false → (r : Range) → Adds class_names out.old.found out.new.found (the_class text.now tokens.now r head.now) }
 {
     match head {
         ClassHead::Plain { name, .. } => own_name(out, text, tokens, name),
         ClassHead::Typed { name, .. } => own_name(out, text, tokens, name),
-        ClassHead::Broken => out.fail(),
+        ClassHead::Broken => {}
     }
 }
 
 /// The name of a function.
-#[tactic(auto, using(crate::proofs::Heads::adds_plain_function, crate::proofs::Heads::adds_typed_function))]
+#[tactic(auto, using(crate::proofs::Heads::adds_plain_function, crate::proofs::Heads::adds_typed_function, crate::proofs::Lists::adds_nothing))]
 fn function_head(out: &mut Names, text: &str, tokens: &[Token], head: &FunctionHead<'_>)
+    requires { IsCut text.now tokens.now }
     ensures before { out.new.failed ≡ false → out.old.failed ≡ false }
     ensures adds { out.new.failed ≡ false → (r : Range) → Adds function_names out.old.found out.new.found (the_head text.now tokens.now r head.now) }
 {
     match head {
         FunctionHead::Plain { name, .. } => own_name(out, text, tokens, name),
         FunctionHead::Typed { name, .. } => own_name(out, text, tokens, name),
-        FunctionHead::Broken => out.fail(),
+        FunctionHead::Broken => {}
     }
 }
 
 /// The first name of a name with dots; `this` is none.
-#[tactic(auto, using(crate::proofs::Heads::adds_this, crate::proofs::Heads::adds_first))]
+#[tactic(auto, using(crate::proofs::Heads::adds_this, crate::proofs::Heads::adds_first, crate::proofs::Lists::adds_nothing))]
 fn left_name(out: &mut Names, text: &str, tokens: &[Token], at: u32)
+    requires { IsCut text.now tokens.now }
     ensures before { out.new.failed ≡ false → out.old.failed ≡ false }
     ensures adds { out.new.failed ≡ false → Adds first_name out.old.found out.new.found (option_map (this_or_name_of text.now) (slice_get tokens.now at)) }
 {
@@ -106,28 +113,30 @@ fn left_name(out: &mut Names, text: &str, tokens: &[Token], at: u32)
             }
             out.token(text, tokens, at);
         }
-        None => out.fail(),
+        None => {}
     }
 }
 
 /// What a name with dots declares: its first name.
-#[tactic(auto, using(crate::proofs::Heads::adds_entity))]
+#[tactic(auto, using(crate::proofs::Heads::adds_entity, crate::proofs::Lists::adds_nothing, crate::proofs::Others::entity_unknown))]
 fn entity_name(out: &mut Names, text: &str, tokens: &[Token], it: &Item<'_>)
+    requires { IsCut text.now tokens.now }
     ensures before { out.new.failed ≡ false → out.old.failed ≡ false }
     ensures adds { out.new.failed ≡ false → Adds entity_names out.old.found out.new.found (entity_in (valued text.now tokens.now it.now)) }
 {
     match entity_at(it) {
         Some(Entity::Names { left, rest: _ }) => left_name(out, text, tokens, left),
-        Some(Entity::Broken) => out.fail(),
-        None => out.fail(),
+        Some(Entity::Broken) => {}
+        None => {}
     }
 }
 
 // ---- variables
 
 /// The names that a declarator binds.
-#[tactic(auto, using(crate::proofs::DeclForms::adds_assigned, crate::proofs::DeclForms::adds_typed, crate::proofs::DeclForms::adds_pattern))]
+#[tactic(auto, using(crate::proofs::DeclForms::adds_assigned, crate::proofs::DeclForms::adds_typed, crate::proofs::DeclForms::adds_pattern, crate::proofs::Lists::adds_nothing, crate::proofs::Others::declarator_unknown))]
 fn declarator_names(out: &mut Names, text: &str, tokens: &[Token], it: &Item<'_>)
+    requires { IsCut text.now tokens.now }
     ensures before { out.new.failed ≡ false → out.old.failed ≡ false }
     ensures adds { out.new.failed ≡ false → Adds declarator_names out.old.found out.new.found (declarator_in (valued text.now tokens.now it.now)) }
 {
@@ -135,25 +144,28 @@ fn declarator_names(out: &mut Names, text: &str, tokens: &[Token], it: &Item<'_>
         Some(Declarator::Assigned { name, value: _ }) => pat_names(out, text, tokens, &name),
         Some(Declarator::Typed { name, .. }) => marked_names(out, text, tokens, &name),
         Some(Declarator::Pattern(node)) => pat_names(out, text, tokens, &node),
-        Some(Declarator::Broken) => out.fail(),
-        None => out.fail(),
+        Some(Declarator::Broken) => {}
+        None => {}
     }
 }
 
 /// The names that the declarator in a turn binds.
+#[tactic(auto, using(crate::proofs::Lists::adds_nothing))]
 fn declarator_turn(out: &mut Names, text: &str, tokens: &[Token], turn: &Item<'_>)
+    requires { IsCut text.now tokens.now }
     ensures before { out.new.failed ≡ false → out.old.failed ≡ false }
     ensures adds { out.new.failed ≡ false → Adds declarator_names out.old.found out.new.found (declarator_at (as_group (valued text.now tokens.now turn.now)) 0) }
 {
     match part_in(turn) {
         Some(declarator) => declarator_names(out, text, tokens, &declarator),
-        None => out.fail(),
+        None => {}
     }
 }
 
 /// The names that the declarators in turns bind.
 #[tactic(auto, using(crate::proofs::Lists::turns_all, crate::proofs::Lists::turns_next, crate::proofs::Lists::turns_done))]
 fn other_names(out: &mut Names, text: &str, tokens: &[Token], others: &Siblings<'_>)
+    requires { IsCut text.now tokens.now }
     ensures before { out.new.failed ≡ false → out.old.failed ≡ false }
     ensures adds { out.new.failed ≡ false → Adds (flat_map declarator_names) out.old.found out.new.found (turns (λ turn. declarator_at turn 0) (held text.now tokens.now others.now.entries.now)) }
 {
@@ -167,6 +179,7 @@ fn other_names(out: &mut Names, text: &str, tokens: &[Token], others: &Siblings<
 /// The names that variables bind: the first declarator, and turns of the others.
 #[tactic(auto, using(crate::proofs::DeclForms::adds_decls))]
 fn all_names(out: &mut Names, text: &str, tokens: &[Token], first: &Item<'_>, others: &Siblings<'_>)
+    requires { IsCut text.now tokens.now }
     ensures before { out.new.failed ≡ false → out.old.failed ≡ false }
     ensures adds { out.new.failed ≡ false → Adds (flat_map declarator_names) out.old.found out.new.found
         (decls_of (declarator_in (valued text.now tokens.now first.now)) (turns (λ turn. declarator_at turn 0) (held text.now tokens.now others.now.entries.now))) }
@@ -176,8 +189,9 @@ fn all_names(out: &mut Names, text: &str, tokens: &[Token], first: &Item<'_>, ot
 }
 
 /// The names that variables bind.
-#[tactic(auto, using(crate::proofs::DeclForms::adds_var, crate::proofs::DeclForms::adds_using))]
+#[tactic(auto, using(crate::proofs::DeclForms::adds_var, crate::proofs::DeclForms::adds_using, crate::proofs::Lists::adds_nothing, crate::proofs::Others::variables_unknown))]
 fn variables_names(out: &mut Names, text: &str, tokens: &[Token], it: &Item<'_>)
+    requires { IsCut text.now tokens.now }
     ensures before { out.new.failed ≡ false → out.old.failed ≡ false }
     ensures adds { out.new.failed ≡ false → Adds variables_names out.old.found out.new.found (variables_in (valued text.now tokens.now it.now)) }
 {
@@ -196,16 +210,17 @@ fn variables_names(out: &mut Names, text: &str, tokens: &[Token], it: &Item<'_>)
                 others,
             },
         ) => all_names(out, text, tokens, &first, &others),
-        Some(Variables::Broken) => out.fail(),
-        None => out.fail(),
+        Some(Variables::Broken) => {}
+        None => {}
     }
 }
 
 // ---- declarations
 
-/// The names that a declaration binds that may stand behind `declare`.
-#[tactic(auto, using(crate::proofs::DeclForms::adds_typed_function, crate::proofs::DeclForms::adds_typed_class, crate::proofs::DeclForms::adds_interface, crate::proofs::DeclForms::adds_alias, crate::proofs::DeclForms::adds_enum, crate::proofs::DeclForms::adds_namespace, crate::proofs::DeclForms::adds_module, crate::proofs::DeclForms::adds_global))]
+/// The names bound by a declaration that may follow `declare`.
+#[tactic(auto, using(crate::proofs::DeclForms::adds_typed_function, crate::proofs::DeclForms::adds_typed_class, crate::proofs::DeclForms::adds_interface, crate::proofs::DeclForms::adds_alias, crate::proofs::DeclForms::adds_enum, crate::proofs::DeclForms::adds_namespace, crate::proofs::DeclForms::adds_module, crate::proofs::DeclForms::adds_global, crate::proofs::Lists::adds_nothing, crate::proofs::Others::declarable_unknown))]
 fn declarable_names(out: &mut Names, text: &str, tokens: &[Token], it: &Item<'_>)
+    requires { IsCut text.now tokens.now }
     ensures before { out.new.failed ≡ false → out.old.failed ≡ false }
     ensures adds { out.new.failed ≡ false → (declare : Bool) (r : Range) → Adds (λ decl. declared_names (decl declare r)) out.old.found out.new.found (declarable_in (valued text.now tokens.now it.now)) }
 {
@@ -222,14 +237,15 @@ fn declarable_names(out: &mut Names, text: &str, tokens: &[Token], it: &Item<'_>
         Some(Declarable::Namespace { name, .. }) => entity_name(out, text, tokens, &name),
         Some(Declarable::Module { .. }) => {}
         Some(Declarable::Global(_)) => {}
-        Some(Declarable::Broken) => out.fail(),
-        None => out.fail(),
+        Some(Declarable::Broken) => {}
+        None => {}
     }
 }
 
-/// The names that a declaration binds at run time, behind those found before.
-#[tactic(auto, using(crate::proofs::DeclForms::adds_function, crate::proofs::DeclForms::adds_class, crate::proofs::DeclForms::adds_var_decl, crate::proofs::DeclForms::adds_var_of, crate::proofs::DeclForms::adds_using_of, crate::proofs::DeclForms::adds_declared, crate::proofs::DeclForms::adds_declared_variables, crate::proofs::DeclForms::adds_declarable))]
+/// The names that a declaration binds at run time, after those found before.
+#[tactic(auto, using(crate::proofs::DeclForms::adds_function, crate::proofs::DeclForms::adds_class, crate::proofs::DeclForms::adds_var_decl, crate::proofs::DeclForms::adds_var_of, crate::proofs::DeclForms::adds_using_of, crate::proofs::DeclForms::adds_declared, crate::proofs::DeclForms::adds_declared_variables, crate::proofs::DeclForms::adds_declarable, crate::proofs::Lists::adds_nothing, crate::proofs::Others::decl_unknown))]
 pub fn decl_names(out: &mut Names, text: &str, tokens: &[Token], it: &Item<'_>)
+    requires { IsCut text.now tokens.now }
     ensures before { out.new.failed ≡ false → out.old.failed ≡ false }
     ensures adds { out.new.failed ≡ false → Adds declared_names out.old.found out.new.found (decl_in (valued text.now tokens.now it.now)) }
 {
@@ -256,7 +272,7 @@ pub fn decl_names(out: &mut Names, text: &str, tokens: &[Token], it: &Item<'_>)
         Some(Decl::Declared(decl)) => declarable_names(out, text, tokens, &decl),
         Some(Decl::DeclaredVariables(variables)) => variables_names(out, text, tokens, &variables),
         Some(Decl::Declarable(node)) => declarable_names(out, text, tokens, &node),
-        Some(Decl::Broken) => out.fail(),
-        None => out.fail(),
+        Some(Decl::Broken) => {}
+        None => {}
     }
 }

@@ -2,11 +2,11 @@
 //!
 //! - `pat_names`, `marked_names`: the names of a pattern (`bound_names`, `specs/Names.antt`).
 //! - `decl_names`: the names that a declaration binds at run time (`declared_names`).
-//! - `Names`: names that are found, and whether one was lost on the way.
-//! - `part_in`, `token_at`, `cut`: what stands in a turn, a token by its number, and its text.
+//! - `Names`: names that are found, and whether memory ran out on the way.
+//! - `part_in`, `token_at`, `cut`: a turn's first part, a token by its number, and its text.
 //!
-//! A name is the text as it is spelled. Not promised: that a walk fails for want of memory alone; it fails too at an item
-//! that the views don't know.
+//! A name is the text as it is spelled. The tokens cut the text between characters (`IsCut`, `specs/Cuts.antt`). A walk
+//! fails only where an allocation does.
 #![tactic(auto)]
 
 mod decls;

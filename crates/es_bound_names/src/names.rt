@@ -1,16 +1,17 @@
 //! Names that are found, and how a name is read from its token.
 
-ghost use Rattle.std.specs.Prelude.{◌≡◌, ◌++◌, ◌∷◌, [], true, false, slice_get, slice_range, IfSome, IfOk};
+ghost use Rattle.std.specs.Prelude.{◌≡◌, ◌++◌, ◌∷◌, [], true, false, slice_get, slice_range, IfOk};
 ghost use Rattle.es_lowering.specs.Texts.{ident_of};
 ghost use Rattle.es_bound_names.specs.Names.{ident_names};
 ghost use Rattle.es_bound_names.specs.Adds.{Adds};
+ghost use Rattle.es_bound_names.specs.Cuts.{Cuts, IsCut};
 ghost use Rattle.std.specs.Option.{option_map};
 
 use base::{Items, Text};
 use es_token::Token;
 use std::alloc::{AllocError, Global};
 
-/// Names that are found, in order, and whether one was lost on the way: from then on nothing is said of them.
+/// Names that are found, in order, and whether memory ran out on the way: from then on nothing is said of them.
 #[derive(Drop)]
 pub struct Names {
     pub found: Items<Text>,
@@ -28,14 +29,14 @@ impl Names {
         }
     }
 
-    /// From now on nothing is said of the names.
-    pub fn fail(&mut self)
+    /// Memory ran out: from now on nothing is said of the names.
+    pub fn fail(&mut self, _memory: AllocError)
         ensures { self.new.failed ≡ true }
     {
         self.failed = true;
     }
 
-    /// The names, where none was lost.
+    /// The names, unless memory ran out.
     pub fn done(self) -> Result<Items<Text>, AllocError>
         ensures { IfOk result (λ found. (self.failed ≡ false) × (found ≡ self.found)) }
     {
@@ -48,7 +49,7 @@ impl Names {
     {
         match self.found.push(name) {
             Ok(()) => {}
-            Err(_) => self.fail(),
+            Err(memory) => self.fail(memory),
         }
     }
 
@@ -58,22 +59,20 @@ impl Names {
     {
         match Text::from_str(self.found.allocator(), name) {
             Ok(name) => self.push(name),
-            Err(_) => self.fail(),
+            Err(memory) => self.fail(memory),
         }
     }
 
     /// The name that the token of this number is.
-    #[tactic(auto, using(crate::proofs::Leaves::adds_ident))]
+    #[tactic(auto, using(crate::proofs::Leaves::adds_ident, crate::proofs::Lists::adds_nothing))]
     pub fn token(&mut self, text: &str, tokens: &[Token], at: u32)
+        requires { IsCut text.now tokens.now }
         ensures before { self.new.failed ≡ false → self.old.failed ≡ false }
         ensures adds { self.new.failed ≡ false → Adds ident_names self.old.found self.new.found (option_map (ident_of text.now) (slice_get tokens.now at)) }
     {
         match token_at(tokens, at) {
-            Some(token) => match cut(text, token) {
-                Some(name) => self.add(name),
-                None => self.fail(),
-            },
-            None => self.fail(),
+            Some(token) => self.add(cut(text, token)),
+            None => {}
         }
     }
 }
@@ -85,14 +84,11 @@ pub fn token_at(tokens: &[Token], at: u32) -> Option<Token>
     tokens.get(at as usize).copied()
 }
 
-/// The text of a token, where it is cut between characters.
-pub fn cut(text: &str, token: Token) -> Option<&str>
-    ensures { IfSome result (λ piece. piece.now ≡ slice_range text.now token.range.start token.range.end) }
+/// The text of a token.
+pub fn cut(text: &str, token: Token) -> &str
+    requires { Cuts text.now token }
+    ensures { result.now ≡ slice_range text.now token.range.start token.range.end }
 {
     let range = token.range();
-    let (start, end) = (range.start, range.end);
-    if start <= end && text.is_char_boundary(start) && text.is_char_boundary(end) {
-        return Some(&text[start..end]);
-    }
-    None
+    &text[range.start..range.end]
 }

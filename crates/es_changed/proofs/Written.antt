@@ -11,13 +11,14 @@ use Rattle.es_syntax.specs.declared.entry.What.TheVariants as vWhat
 use Rattle.es_syntax.specs.declared.cursor.Item.{Item}
 use Rattle.es_syntax.specs.Held.{Held, row_of, made, held, node_of, parts_of, valued}
 use Rattle.es_changed.specs.declared.entry.Form.{Form}
+use Rattle.es_changed.specs.declared.entry.Form.TheVariants as form
 use Rattle.es_changed.specs.declared.entry.Word.{Word}
 use Rattle.es_changed.specs.declared.entry.Change.{Change}
 use Rattle.es_changed.specs.declared.entry.Change.TheVariants as change
 use Rattle.es_changed.specs.declared.entry.ChangedEntry.{ChangedEntry}
 use Rattle.es_changed.specs.Formed.{formed, word_type}
 use Rattle.es_changed.specs.Changed.{with_part, changed, type_node}
-use Rattle.es_changed.specs.Shape.{headed, closed, opened, Shape, none, node, kept, old_entry, entries_of, beside, held_of, Writes}
+use Rattle.es_changed.specs.Shape.{headed, closed, name_entry, named, opened, Shape, none, node, kept, old_entry, entries_of, beside, held_of, Writes}
 
 pub closed_at : (c : Change) (f t at : ℕ) (a b : List ChangedEntry) (h : ChangedEntry) → at ≡ length a
     → closed c f t at ((a ++ h ∷ []) ++ b) ≡ a ++ headed c f t b
@@ -32,6 +33,18 @@ closed_set c f t at n es h e =
     let y : ChangedEntry = record { change = c; from = f; to = t; size = n } in
     let k : n ≡ length (drop (at + 1) es) = omega (arith, length-drop (at + 1) es) in
     rw (← take-append-drop at (set es at y), take-set es at y, drop-set es at y h, k) refl
+
+-- to make it a name is to write that in its place
+pub named_set : (n at : ℕ) (es : List ChangedEntry) → at < length es → set es at (name_entry n) ≡ named n at es
+unfolding named
+named_set n at es h =
+    let y : ChangedEntry = name_entry n in
+    rw (← take-append-drop at (set es at y), take-set es at y, drop-set es at y h) refl
+
+named_at : (n at : ℕ) (a b : List ChangedEntry) (h : ChangedEntry) → at ≡ length a
+    → named n at ((a ++ h ∷ []) ++ b) ≡ a ++ name_entry n ∷ b
+unfolding named
+named_at n at a b h e = rw (e, append_assoc, take-append_seam a (h ∷ b), drop-append-add a (h ∷ b) 1) refl
 
 entries_beside : (a b : Shape) → entries_of (beside a b) ≡ entries_of a ++ entries_of b
 unfolding entries_of beside
@@ -173,6 +186,19 @@ module _ (x : List ℕ) (ts : List Token) where
   unfolding held_of
   group_written from to at old begun mid new vs eo ea w e =
       closed_written (change.Old vWhat.Parts) (λ us. packed us) from to at old begun mid new vs (λ s. refl) eo ea w e
+
+  -- a made name before what was written since it was opened
+  pub name_written : (n at : ℕ) (old begun mid new : List ChangedEntry) (vs : List Value) → begun ≡ old ++ opened
+      → at ≡ length old → Writes x ts begun mid vs → new ≡ named n at mid
+      → Writes x ts old new (formed x ts form.MadeName n 0 nil ∷ vs)
+  unfolding entries_of held_of
+  name_written n at old begun mid new vs eo ea w e = record {
+    shape = node (change.Form form.MadeName) n 0 none w.shape;
+    row =
+        e ∙ (ap (named n at) (w.row ∙ ap (λ (es : List ChangedEntry). es ++ entries_of w.shape) eo)
+        ∙ named_at n at old (entries_of w.shape) (record { change = change.Gone; from = 0; to = 0; size = 0 }) ea);
+    are = ap (λ (us : List Value). formed x ts form.MadeName n 0 nil ∷ us) w.are;
+  }
 
   -- ---- what is taken back
   pub taken_back : (old new : List ChangedEntry) (vs : List Value) → Writes x ts old new vs

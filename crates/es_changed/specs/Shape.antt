@@ -5,6 +5,7 @@ use Rattle.es_lowering.specs.Value.{Value}
 use Rattle.es_syntax.specs.declared.entry.What.{What}
 use Rattle.es_syntax.specs.declared.entry.Entry.{Entry}
 use Rattle.es_syntax.specs.Held.{Held, row_of, made, held, parts_of}
+use Rattle.es_changed.specs.declared.entry.Form.TheVariants as form
 use Rattle.es_changed.specs.declared.entry.Change.{Change}
 use Rattle.es_changed.specs.declared.entry.Change.TheVariants as change
 use Rattle.es_changed.specs.declared.entry.ChangedEntry.{ChangedEntry}
@@ -17,6 +18,14 @@ headed c from to parts = record { change = c; from = from; to = to; size = lengt
 -- the entries once the node that was opened at a place is closed
 unfoldable pub closed : Change → ℕ → ℕ → ℕ → List ChangedEntry → List ChangedEntry
 closed c from to at es = take at es ++ headed c from to (drop (at + 1) es)
+
+-- a made name by its number
+abbrev pub name_entry : ℕ → ChangedEntry
+name_entry number = record { change = change.Form form.MadeName; from = number; to = 0; size = 0 }
+
+-- the entries once what was opened at a place is the made name of this number, before what was written since
+unfoldable pub named : ℕ → ℕ → List ChangedEntry → List ChangedEntry
+named number at es = take at es ++ name_entry number ∷ drop (at + 1) es
 
 -- what stands in the place of a node that is open
 abbrev pub opened : List ChangedEntry

@@ -10,7 +10,7 @@ pub struct ChangedSiblings<'a> {
     pub entries: &'a [ChangedEntry],
 }
 
-/// What stands at a place, with its parts.
+/// What is at a place, with its parts.
 #[derive(Clone, Copy)]
 pub struct ChangedItem<'a> {
     pub change: Change,
@@ -20,7 +20,7 @@ pub struct ChangedItem<'a> {
 }
 
 impl<'a> ChangedSiblings<'a> {
-    /// What stands first, which may be no part, and what stands behind it.
+    /// The first item, which may be no part, and the siblings after it.
     #[tactic(auto, using(crate::proofs::Rows::held_none, crate::proofs::Rows::held_some))]
     pub fn split(&self) -> Option<(ChangedItem<'a>, ChangedSiblings<'a>)>
         ensures value { (x : List ℕ) (ts : List Tok) → held_in x ts self.now.entries.now ≡ first_in x ts result }

@@ -12,7 +12,7 @@ pub enum Word {
     Null,
 }
 
-/// A node that the grammar doesn't read so, by its parts (`formed`, `specs/Formed.antt`). Parts in a list stand side by side;
+/// A node that the grammar doesn't read so, by its parts (`formed`, `specs/Formed.antt`). Parts in a list are side by side;
 /// `[a]` is a group: one entry `Parts`, which is empty where the part is absent.
 #[derive(Clone, Copy, Debug, PartialEq, Eq)]
 pub enum Form {
@@ -57,7 +57,7 @@ pub enum Form {
     /// A pattern that had a default.
     Pattern,
     // ---- names and keys
-    /// `_dts_1`: its number stands as its first token.
+    /// `_dts_1`: its number, held as its first token.
     MadeName,
     /// `["a"]`: its token.
     StrKey,
@@ -69,15 +69,15 @@ pub enum Form {
     Path,
     /// `this.a`: the tokens of `this` and the names.
     ThisPath,
-    // ---- what stands behind a pattern or a key
+    // ---- what follows a pattern or a key
     /// `: a`: a type.
     Annotation,
     /// `?`
     Optional,
     // ---- declarations
-    /// A declaration behind `declare`: a declaration without.
+    /// A declaration after `declare`: a declaration without it.
     Declare,
-    /// A declaration without `declare`: one behind it.
+    /// A declaration without `declare`: one after it.
     Undeclare,
     /// `declare const a: b;`: a made name, a type.
     DefaultConst,
@@ -86,7 +86,7 @@ pub enum Form {
     // ---- members of classes of JavaScript
     /// `a: b`: `[static]`, a key, `[a type]`.
     Field,
-    /// `a()` without a body: `[static]`, a key, parameters. So are those behind it.
+    /// `a()` without a body: `[static]`, a key, parameters. So are the variants after it.
     Method,
     Getter,
     Setter,
@@ -95,20 +95,20 @@ pub enum Form {
     AsyncGeneratorMethod,
 }
 
-/// What stands at a place of a changed row.
+/// What is at a place of a changed row.
 #[derive(Clone, Copy)]
 pub enum Change {
-    /// What may stand so in the row of a program: its numbers are those of tokens, and its parts may be changed.
+    /// What may also appear in the row of a program: its numbers are those of tokens, and its parts may be changed.
     Old(What),
     /// A node that no text has, or that has other parts than its text.
     Form(Form),
     /// A keyword type that no text has.
     Word(Word),
-    /// No part: what the text goes on with is the token of its end, and what stands before that is dropped.
+    /// No part: the text is printed up to its first token, and continues with the token of its end.
     Gone,
 }
 
-/// What stands there, before its parts: its first token, the token behind its last one, and how many entries its parts take.
+/// What is at a place, before its parts: its first token, the token after its last one, and how many entries its parts take.
 #[derive(Clone, Copy)]
 pub struct ChangedEntry {
     pub change: Change,

@@ -5,7 +5,7 @@ ghost use Rattle.es_lowering.specs.Value as value;
 ghost use Rattle.es_syntax.specs.Held.{valued};
 ghost use Rattle.es_changed.specs.Formed.{formed, word_type};
 ghost use Rattle.es_changed.specs.Changed.{type_node};
-ghost use Rattle.es_changed.specs.Shape.{closed, headed, opened, old_entry, Writes};
+ghost use Rattle.es_changed.specs.Shape.{closed, headed, named, opened, old_entry, Writes};
 
 use crate::cursor::ChangedSiblings;
 use crate::entry::{Change, ChangedEntry, Form, Word};
@@ -28,7 +28,7 @@ impl Model for ChangedWriter {
     ghost view = { λ w. w.entries.items };
 }
 
-/// What stands in the place of a node that is open.
+/// The entry in the place of a node that is open.
 const OPEN: ChangedEntry = ChangedEntry {
     change: Change::Gone,
     from: 0,
@@ -36,7 +36,7 @@ const OPEN: ChangedEntry = ChangedEntry {
     size: 0,
 };
 
-/// Entries of the program's row, as they stand. A call that fails may have written some.
+/// Writes entries of the program's row, unchanged. A call that fails may have written some.
 #[tactic(auto, using(crate::proofs::Kept::kept_none, crate::proofs::Kept::kept_next, crate::proofs::Kept::kept_done))]
 fn push_old(out: &mut Vec<ChangedEntry>, entries: &[Entry]) -> Result<(), AllocError>
     ensures { OnOk result (out.new.items ≡ out.old.items ++ map old_entry entries.now) }
@@ -101,13 +101,22 @@ impl ChangedWriter {
         Ok(())
     }
 
-    /// The text goes on with this token: what stands before it is dropped.
+    /// The text continues with this token: what isn't printed yet is dropped.
     #[tactic(auto, using(crate::proofs::Written::gone_written))]
     pub fn gone(&mut self, to: u32) -> Result<(), AllocError>
         ensures written { OnOk result ((x : List ℕ) (ts : List Tok) → Writes x ts self.old self.new []) }
         ensures kept { OnErr result (self.new ≡ self.old) }
     {
-        self.leaf(Change::Gone, to, to)
+        self.leaf(Change::Gone, 0, to)
+    }
+
+    /// The tokens from the first of these to the second are dropped: what precedes them is printed.
+    #[tactic(auto, using(crate::proofs::Written::gone_written))]
+    pub fn dropped(&mut self, from: u32, to: u32) -> Result<(), AllocError>
+        ensures written { OnOk result ((x : List ℕ) (ts : List Tok) → Writes x ts self.old self.new []) }
+        ensures kept { OnErr result (self.new ≡ self.old) }
+    {
+        self.leaf(Change::Gone, from, to)
     }
 
     /// A keyword type that no text has.
@@ -157,8 +166,8 @@ impl ChangedWriter {
         Ok(at)
     }
 
-    /// Closes the node that was opened at this place. More parts than fit 32 bits, and a place where nothing stands, are
-    /// answered as out of memory.
+    /// Closes the node that was opened at this place. More parts than fit 32 bits, and a place without an entry, are
+    /// reported as out of memory.
     #[tactic(auto, using(crate::proofs::Written::closed_set))]
     pub fn close(&mut self, at: usize, change: Change, from: u32, to: u32) -> Result<(), AllocError>
         ensures written { OnOk result (self.new ≡ closed change from to at self.old) }
@@ -182,7 +191,26 @@ impl ChangedWriter {
         }
     }
 
-    /// What stands at a place of the program's row, with its parts. A call that fails may have written some of them.
+    /// Makes the node that was opened at this place the made name of this number, which what was written since follows. A place
+    /// without an entry is reported as out of memory.
+    #[tactic(auto, using(crate::proofs::Written::named_set))]
+    pub fn name_at(&mut self, at: usize, number: u32) -> Result<(), AllocError>
+        ensures written { OnOk result (self.new ≡ named number at self.old) }
+        ensures kept { OnErr result (self.new ≡ self.old) }
+    {
+        if at >= self.entries.len() {
+            return Err(AllocError);
+        }
+        self.entries[at] = ChangedEntry {
+            change: Change::Form(Form::MadeName),
+            from: number,
+            to: 0,
+            size: 0,
+        };
+        Ok(())
+    }
+
+    /// Copies what is at a place of the program's row, with its parts. A call that fails may have written some of them.
     #[tactic(auto, using(crate::proofs::Kept::kept_headed))]
     pub fn keep(&mut self, item: &Item<'_>) -> Result<(), AllocError>
         ensures { OnOk result ((x : List ℕ) (ts : List Tok) → Writes x ts self.old self.new (valued x ts item.now ∷ [])) }

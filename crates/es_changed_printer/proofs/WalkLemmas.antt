@@ -36,6 +36,10 @@ module _ (src : Source) where
     sym next,
   )
 
+  pub dropped_grows : (here : Style) (from to : ℕ) (o a b : Draft) → Grows src (up_to src.tokens.now here from) o a
+      → Grows src (go_on to) a b → Grows src (λ s. go_on to (up_to src.tokens.now here from s)) o b
+  dropped_grows here from to o a b one two = follows src (up_to src.tokens.now here from) (go_on to) o a b one two
+
   -- ---- nodes
   -- a node, by its tokens and what is printed in it
   around : (label : NodeKind) (from to : ℕ) (inside : Shown) (here own : Style) (o a b c d e : Draft)

@@ -1,5 +1,5 @@
 -- What is printed of a changed row, piece by piece: the tokens of what is kept and changed, each as the innermost node around it
--- says, and the tokens that no text has. The text goes on with the token that what is gone names.
+-- says, and the tokens that no text has. What is gone is printed up to, and the text goes on with the token of its end.
 use Rattle.std.specs.Prelude.{ℕ, zero, suc, Bool, true, false, List, [], ◌∷◌, length, take, drop, map, Option, Some, None}
 use Rattle.es_token.specs.declared.token.Token.{Token}
 use Rattle.es_grammar.specs.declared.rows.NodeKind.{NodeKind}
@@ -107,7 +107,7 @@ module _ (ts : List Token) where
   shown (change.Old (what.Lean lean)) from to ps here s = leaning lean from ps here s
   shown (change.Form f) from to ps here s = form_by (alternative f) f from to ps here s
   shown (change.Word w) from to ps here s = put (piece.Made (word_sign w) ∷ []) s
-  shown change.Gone from to ps here s = go_on to s
+  shown change.Gone from to ps here s = go_on to (up_to ts here from s)
 
   abbrev pub part_by : Change → ℕ → ℕ → List Part → Part
   part_by c from to ps = record { to = to; is_part = is_part c; is_group = is_group c; shown = shown c from to ps }

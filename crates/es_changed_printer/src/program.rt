@@ -13,7 +13,7 @@ use es_printer::{Draft, Page, Source, Style};
 use es_token::Token;
 use std::alloc::{AllocError, Global};
 
-/// The page of the program that stands first in a row.
+/// The page of the program that is first in a row.
 #[tactic(auto, using(crate::proofs::WalkLemmas::whole))]
 fn program_page<'a>(
     alloc: Global,
@@ -30,7 +30,7 @@ fn program_page<'a>(
     Ok(draft.page)
 }
 
-/// The printed text of the program that stands first in a changed row, over the text and the tokens of the program that was
+/// The printed text of the program that is first in a changed row, over the text and the tokens of the program that was
 /// changed, with the comments before its items where some are given.
 pub fn print_changed(
     alloc: Global,

@@ -6,7 +6,7 @@ ghost use Rattle.es_changed_printer.specs.Pieces.{parts, first_part};
 
 use es_changed::{ChangedItem, ChangedSiblings};
 
-/// What stands first, and what stands behind it.
+/// The first part in a row, and those after it.
 #[inline(always)]
 #[tactic(auto, using(crate::proofs::RowLemmas::parts_none, crate::proofs::RowLemmas::parts_some))]
 pub fn split<'t>(row: &ChangedSiblings<'t>) -> Option<(ChangedItem<'t>, ChangedSiblings<'t>)>

@@ -8,7 +8,7 @@ use es_changed::{Form, Word};
 use es_grammar::NodeKind;
 use es_printer::{Made, Style};
 
-/// Where a part stands among those of its form.
+/// The place of a part among those of its form.
 #[derive(Clone, Copy, Debug, PartialEq, Eq)]
 pub enum Place {
     First,
@@ -240,7 +240,7 @@ pub fn last_sign(form: Form) -> Option<Made>
     }
 }
 
-/// Whether `;` and a line end stand behind it.
+/// Whether `;` and a line end follow it.
 pub fn ends_line(form: Form) -> bool
     ensures { result ≡ ends_line form }
 {
@@ -284,7 +284,7 @@ pub fn ends_line(form: Form) -> bool
     }
 }
 
-/// As what alternative the tokens are printed of a form that stands in the text.
+/// The alternative by which the tokens of a form in the text are printed.
 pub fn alternative(form: Form) -> Option<NodeKind>
     ensures { result ≡ alternative form }
 {

@@ -2,7 +2,7 @@
 
 ghost use Rattle.std.specs.Prelude.{◌≡◌, OnOk, IfOk};
 ghost use Rattle.es_syntax.specs.Held.{label_of};
-ghost use Rattle.es_printer.specs.Sheet.{node};
+ghost use Rattle.es_printer.specs.Sheet.{node, up_to};
 ghost use Rattle.es_printer.specs.Laid.{Grows};
 ghost use Rattle.es_changed_printer.specs.declared.signs.Place.TheVariants as place;
 ghost use Rattle.es_changed_printer.specs.Signs.{alternative};
@@ -17,7 +17,7 @@ use es_printer::{Draft, Piece, Source, Style, before, behind, style_of, up_to};
 use es_syntax::{Lean, What};
 use std::alloc::AllocError;
 
-/// The alternative of nodes that lean left.
+/// The alternative of left-associative nodes.
 fn label_of(lean: Lean) -> NodeKind
     ensures { result ≡ label_of lean }
 {
@@ -36,6 +36,22 @@ fn go_on(out: &mut Draft<'_>, source: &Source<'_>, to: u32)
     out.next = to;
 }
 
+/// The text up to the first of these tokens is printed, and goes on with the second.
+#[tactic(auto, using(crate::proofs::WalkLemmas::dropped_grows))]
+fn drop_tokens(
+    out: &mut Draft<'_>,
+    source: &Source<'_>,
+    here: Style,
+    from: u32,
+    to: u32,
+) -> Result<(), AllocError>
+    ensures { OnOk result (Grows source.now (λ s. go_on to (up_to source.now.tokens.now here from s)) out.old out.new) }
+{
+    up_to(out, source, here, from)?;
+    go_on(out, source, to);
+    Ok(())
+}
+
 /// Nothing is printed.
 #[tactic(auto, using(crate::proofs::WalkLemmas::leaf))]
 fn nothing(out: &mut Draft<'_>, source: &Source<'_>) -> Result<(), AllocError>
@@ -46,7 +62,7 @@ fn nothing(out: &mut Draft<'_>, source: &Source<'_>) -> Result<(), AllocError>
     Ok(())
 }
 
-/// What is printed of what stands there, in a node of this style.
+/// What is printed of an item, in a node of this style.
 #[cycle(walk)]
 pub fn walk(
     out: &mut Draft<'_>,
@@ -64,10 +80,7 @@ pub fn walk(
         Change::Old(What::Lean(lean)) => leaning(out, source, here, lean, item.from, item.parts),
         Change::Form(form) => form_node(out, source, here, form, item),
         Change::Word(word) => out.push(source, Piece::Made(word_sign(word))),
-        Change::Gone => {
-            go_on(out, source, item.to);
-            Ok(())
-        }
+        Change::Gone => drop_tokens(out, source, here, item.from, item.to),
     }
 }
 
@@ -143,7 +156,7 @@ fn form_node(
     }
 }
 
-/// A form that stands in the text, with its tokens.
+/// A form that is in the text, with its tokens.
 #[cycle(walk)]
 #[tactic(auto, using(crate::proofs::WalkLemmas::standing_grows))]
 fn standing(
@@ -184,7 +197,7 @@ fn made(
     shut(out, source, form)
 }
 
-/// The parts of a form, each behind what is printed before it.
+/// The parts of a form, each after what is printed before it.
 #[cycle(walk)]
 fn run(
     out: &mut Draft<'_>,
@@ -267,7 +280,7 @@ fn turn(out: &mut Draft<'_>, source: &Source<'_>, item: ChangedItem<'_>) -> Resu
     }
 }
 
-/// Operators with their operands; the answer is the token behind the last one.
+/// Operators with their operands; returns the number of the token after the last one.
 #[cycle(walk)]
 #[tactic(auto, using(crate::proofs::WalkLemmas::last_none))]
 fn turned(

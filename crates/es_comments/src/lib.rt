@@ -1,6 +1,6 @@
-//! The comments of a text by the places at which they stand: before a token, or behind one.
+//! The comments of a text by their places: before a token, or after one.
 //!
-//! - `comments_of(text, tokens, comments)`: a comment is trailing at the end of the token before it where no line end stands
+//! - `comments_of(text, tokens, comments)`: a comment is trailing at the end of the token before it where no line end is
 //!   between them, or where no token follows; else leading at the start of the next token. With no token it is leading at 0
 //!   (`ArePlaced`, `specs/Standing.antt`).
 //! - `MultiThreadedComments`: both maps, shared by its copies, which contracts see as places with their comments (`Placed`,

@@ -10,7 +10,7 @@ use std::collections::BTreeMap;
 /// Comments by their places, in bytes of the text.
 pub type CommentMap = BTreeMap<usize, Vec<Comment>>;
 
-/// Comments that stand before the token at a place, and those that stand behind the token that ends at a place.
+/// Comments before the token at a place, and those after the token that ends at a place.
 #[derive(Debug, Drop)]
 pub struct SingleThreadedComments {
     pub leading: CommentMap,
@@ -71,7 +71,7 @@ pub fn copy_comment(comment: &Comment) -> Result<Comment, AllocError>
     })
 }
 
-/// Puts a comment behind those at a place.
+/// Adds a comment after those at a place.
 pub fn add(
     alloc: Global,
     map: &mut CommentMap,

@@ -1,4 +1,4 @@
-//! Where a comment stands.
+//! Where a comment is.
 ghost use Rattle.std.specs.Prelude.{◌≡◌, ◌≤◌, OnOk, IfOk};
 ghost use Rattle.std.specs.List.{slice_get};
 ghost use Rattle.es_comments.specs.Placed.{placed_in};
@@ -9,12 +9,12 @@ use crate::maps::{SingleThreadedComments, add, copy_comment};
 use es_token::{Comment, Token};
 use std::alloc::{AllocError, Global};
 
-/// Where a comment stands.
+/// Where a comment is.
 #[derive(Clone, Copy)]
 pub enum Stand {
     /// Before the token that starts here.
     Leading(usize),
-    /// Behind the token that ends here.
+    /// After the token that ends here.
     Trailing(usize),
 }
 
@@ -24,7 +24,7 @@ struct Past {
     place: usize,
     // How many tokens begin before it.
     passed: usize,
-    // Whether a line end stands behind the last of them.
+    // Whether a line end is after the last of them.
     line: bool,
 }
 
@@ -97,7 +97,7 @@ fn pass(tokens: &[Token], from: usize, place: usize) -> usize
     passed
 }
 
-// Whether a line end stands behind the last of so many tokens, before the place.
+// Whether a line end is after the last of the first `passed` tokens, before the place.
 fn line_since(text: &[u8], tokens: &[Token], past: Past, passed: usize, place: usize) -> bool
     requires past { IsPast text.now tokens.now past }
     requires on { past.place ≤ place }
@@ -136,7 +136,7 @@ fn has_line_end(text: &[u8], from: usize, upto: usize) -> bool
     false
 }
 
-// Whether a line feed, a carriage return, U+2028 or U+2029 stands here.
+// Whether the rest begins with a line feed, a carriage return, U+2028 or U+2029.
 fn begins_line_end(rest: &[u8]) -> bool
     ensures { result ≡ begins_line_end rest.now }
 {

@@ -134,7 +134,7 @@ impl MultiThreadedComments {
         self.inner.trailing.contains_key(&pos)
     }
 
-    /// The comments behind the token that ends here.
+    /// The comments after the token that ends here.
     pub fn get_trailing(&self, pos: usize) -> Option<&Vec<Comment>>
         ensures { option_map (λ v. v.now.items) result ≡ comments_at self.now.trailing pos }
     {

@@ -6,3 +6,7 @@ pub mod Items
 pub mod ExportForms
 -- exports of all names of a module
 pub mod ReexportForms
+-- names in braces that no view knows
+pub mod Specifiers
+-- the items of a program that is lent
+pub mod Bodies

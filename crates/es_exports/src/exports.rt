@@ -9,10 +9,12 @@ ghost use Rattle.es_view_modules.specs.names.ExportSpecifier.{the_export_specifi
 ghost use Rattle.es_syntax.specs.Held.{held, valued};
 ghost use Rattle.es_syntax.specs.Roles.{item_in, export_specifier_in};
 ghost use Rattle.es_bound_names.specs.Adds.{Adds};
+ghost use Rattle.es_bound_names.specs.Cuts.{IsCut};
 ghost use Rattle.es_exports.specs.Exports.{exported_by, outer_name, all_as};
 ghost use Rattle.es_exports.specs.Parts.{decl_exports};
 ghost use Rattle.es_exports.specs.Named.{named_as};
 
+use crate::body::module_items;
 use crate::tokens::{export_name, name_part};
 use base::{Items, Text};
 use es_bound_names::{Names, decl_names, part_in};
@@ -28,7 +30,7 @@ use std::alloc::{AllocError, Global};
 pub fn module_exports(alloc: Global, it: &Module) -> Result<Items<Text>, AllocError>
     ensures { IfOk result (λ found. found ≡ flat_map exported_by it.now.typed.body) }
 {
-    let (text, tokens, items) = it.body();
+    let (text, tokens, items) = module_items(it);
     let mut out = Names::new(alloc);
     items_names(&mut out, text, tokens, &items);
     out.done()
@@ -37,6 +39,7 @@ pub fn module_exports(alloc: Global, it: &Module) -> Result<Items<Text>, AllocEr
 /// The names that the items in turns export.
 #[tactic(auto, using(es_bound_names::proofs::Lists::turns_all, es_bound_names::proofs::Lists::turns_done))]
 fn items_names(out: &mut Names, text: &str, tokens: &[Token], items: &Siblings<'_>)
+    requires { IsCut text.now tokens.now }
     ensures before { out.new.failed ≡ false → out.old.failed ≡ false }
     ensures adds { out.new.failed ≡ false → Adds (flat_map exported_by) out.old.found out.new.found (turns (λ turn. item_at turn 0) (held text.now tokens.now items.now.entries.now)) }
 {
@@ -48,19 +51,22 @@ fn items_names(out: &mut Names, text: &str, tokens: &[Token], items: &Siblings<'
 }
 
 /// The names that the item in a turn exports.
+#[tactic(auto, using(es_bound_names::proofs::Lists::adds_nothing))]
 fn item_turn(out: &mut Names, text: &str, tokens: &[Token], turn: &Item<'_>)
+    requires { IsCut text.now tokens.now }
     ensures before { out.new.failed ≡ false → out.old.failed ≡ false }
     ensures adds { out.new.failed ≡ false → Adds exported_by out.old.found out.new.found (item_at (as_group (valued text.now tokens.now turn.now)) 0) }
 {
     match part_in(turn) {
         Some(item) => item_names(out, text, tokens, &item),
-        None => out.fail(),
+        None => {}
     }
 }
 
 /// The names that an item exports.
 #[tactic(auto, using(crate::proofs::Items::adds_export, crate::proofs::Items::adds_other))]
 fn item_names(out: &mut Names, text: &str, tokens: &[Token], it: &Item<'_>)
+    requires { IsCut text.now tokens.now }
     ensures before { out.new.failed ≡ false → out.old.failed ≡ false }
     ensures adds { out.new.failed ≡ false → Adds exported_by out.old.found out.new.found (item_in (valued text.now tokens.now it.now)) }
 {
@@ -71,8 +77,9 @@ fn item_names(out: &mut Names, text: &str, tokens: &[Token], it: &Item<'_>)
 }
 
 /// The names of an export.
-#[tactic(auto, using(crate::proofs::ExportForms::adds_all, crate::proofs::ExportForms::adds_names, crate::proofs::ExportForms::adds_namespace, crate::proofs::ExportForms::adds_default_decl, crate::proofs::ExportForms::adds_default_expr, crate::proofs::ExportForms::adds_decl, crate::proofs::ExportForms::adds_assignment))]
+#[tactic(auto, using(crate::proofs::ExportForms::adds_all, crate::proofs::ExportForms::adds_names, crate::proofs::ExportForms::adds_namespace, crate::proofs::ExportForms::adds_default_decl, crate::proofs::ExportForms::adds_default_expr, crate::proofs::ExportForms::adds_decl, crate::proofs::ExportForms::adds_assignment, es_bound_names::proofs::Lists::adds_nothing))]
 fn export_names(out: &mut Names, text: &str, tokens: &[Token], it: &Export<'_>)
+    requires { IsCut text.now tokens.now }
     ensures before { out.new.failed ≡ false → out.old.failed ≡ false }
     ensures adds { out.new.failed ≡ false → (r : Range) → Adds decl_exports out.old.found out.new.found (the_export text.now tokens.now r it.now) }
 {
@@ -84,13 +91,14 @@ fn export_names(out: &mut Names, text: &str, tokens: &[Token], it: &Export<'_>)
         Export::DefaultExpr(_) => out.add("default"),
         Export::Decl(decl) => decl_names(out, text, tokens, decl),
         Export::Assignment(_) => {}
-        Export::Broken => out.fail(),
+        Export::Broken => {}
     }
 }
 
-/// The name behind `as`, which may be absent.
+/// The name after `as`, which may be absent.
 #[tactic(auto, using(crate::proofs::TokenForms::adds_no_as, crate::proofs::TokenForms::adds_as))]
 fn as_name(out: &mut Names, text: &str, tokens: &[Token], exported: &Siblings<'_>)
+    requires { IsCut text.now tokens.now }
     ensures before { out.new.failed ≡ false → out.old.failed ≡ false }
     ensures adds { out.new.failed ≡ false → Adds all_as out.old.found out.new.found (named_as text.now tokens.now (held text.now tokens.now exported.now.entries.now)) }
 {
@@ -103,6 +111,7 @@ fn as_name(out: &mut Names, text: &str, tokens: &[Token], exported: &Siblings<'_
 /// The outer names in turns in braces.
 #[tactic(auto, using(es_bound_names::proofs::Lists::turns_all, es_bound_names::proofs::Lists::turns_done))]
 fn specifiers_names(out: &mut Names, text: &str, tokens: &[Token], specifiers: &Siblings<'_>)
+    requires { IsCut text.now tokens.now }
     ensures before { out.new.failed ≡ false → out.old.failed ≡ false }
     ensures adds { out.new.failed ≡ false → Adds (flat_map outer_name) out.old.found out.new.found (turns (λ turn. export_specifier_at turn 0) (held text.now tokens.now specifiers.now.entries.now)) }
 {
@@ -114,30 +123,35 @@ fn specifiers_names(out: &mut Names, text: &str, tokens: &[Token], specifiers: &
 }
 
 /// The outer name in a turn.
+#[tactic(auto, using(es_bound_names::proofs::Lists::adds_nothing))]
 fn specifier_turn(out: &mut Names, text: &str, tokens: &[Token], turn: &Item<'_>)
+    requires { IsCut text.now tokens.now }
     ensures before { out.new.failed ≡ false → out.old.failed ≡ false }
     ensures adds { out.new.failed ≡ false → Adds outer_name out.old.found out.new.found (export_specifier_at (as_group (valued text.now tokens.now turn.now)) 0) }
 {
     match part_in(turn) {
         Some(specifier) => specifier_name(out, text, tokens, &specifier),
-        None => out.fail(),
+        None => {}
     }
 }
 
 /// The outer name of a specifier.
+#[tactic(auto, using(crate::proofs::Specifiers::unknown))]
 fn specifier_name(out: &mut Names, text: &str, tokens: &[Token], it: &Item<'_>)
+    requires { IsCut text.now tokens.now }
     ensures before { out.new.failed ≡ false → out.old.failed ≡ false }
     ensures adds { out.new.failed ≡ false → Adds outer_name out.old.found out.new.found (export_specifier_in (valued text.now tokens.now it.now)) }
 {
     match export_specifier_at(it) {
         Some(name) => outer_name(out, text, tokens, &name),
-        None => out.fail(),
+        None => {}
     }
 }
 
-/// The outer name: the one behind `as`, or the only one.
-#[tactic(auto, using(crate::proofs::ExportForms::adds_same, crate::proofs::ExportForms::adds_outer))]
+/// The outer name: the one after `as`, or the only one.
+#[tactic(auto, using(crate::proofs::ExportForms::adds_same, crate::proofs::ExportForms::adds_outer, es_bound_names::proofs::Lists::adds_nothing))]
 fn outer_name(out: &mut Names, text: &str, tokens: &[Token], it: &ExportName<'_>)
+    requires { IsCut text.now tokens.now }
     ensures before { out.new.failed ≡ false → out.old.failed ≡ false }
     ensures adds { out.new.failed ≡ false → (r : Range) → Adds outer_name out.old.found out.new.found (the_export_specifier text.now tokens.now r it.now) }
 {
@@ -146,6 +160,6 @@ fn outer_name(out: &mut Names, text: &str, tokens: &[Token], it: &ExportName<'_>
             Some((first, _)) => name_part(out, text, tokens, &first),
             None => export_name(out, text, tokens, *orig),
         },
-        ExportName::Broken => out.fail(),
+        ExportName::Broken => {}
     }
 }

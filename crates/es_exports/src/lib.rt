@@ -8,6 +8,7 @@
 #![tactic(auto)]
 
 mod analysis;
+mod body;
 mod exports;
 mod reexports;
 mod tokens;

@@ -75,7 +75,7 @@ fn node_range(tokens: &[Token], label: NodeKind, node: Range, parts: &Siblings<'
     node
 }
 
-/// The range of nodes that lean left.
+/// The range of left-associative nodes.
 #[tactic(auto, using(crate::proofs::Leans::lean_span, crate::proofs::Leans::no_place))]
 fn leaning_range(tokens: &[Token], it: &Item<'_>) -> Range
     requires { is_lean it.now.what ≡ true }

@@ -1,4 +1,4 @@
-//! The range of an expression that stands in a row of entries: the `span` of the node that it becomes.
+//! The range of an expression in a row of entries: the `span` of the node that it becomes.
 #![tactic(auto)]
 
 mod chain;

@@ -253,7 +253,7 @@ impl ReadsProduction<Row> for NewBase {
     }
 }
 
-/// Base: Prim | 'super' | 'import' .. | 'new' .., without the parts behind it; behind `new` (false) without the import call.
+/// Base: Prim | 'super' | 'import' .. | 'new' .., without the parts after it; after `new` (false) without the import call.
 #[derive(Clone, Copy)]
 pub struct Base(pub Lang, pub bool, pub Context);
 

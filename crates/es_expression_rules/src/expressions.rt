@@ -54,7 +54,7 @@ impl ReadsProduction<Row> for Yield {
     }
 }
 
-/// Cond, or Target AssignOp Assign: an operand, and all levels behind it.
+/// Cond, or Target AssignOp Assign: an operand, and all levels after it.
 #[derive(Clone, Copy)]
 pub struct Operated(pub Lang, pub Context);
 

@@ -1,6 +1,6 @@
-//! Levels of operators, behind an operand that was read already: from the tightest outward.
+//! Levels of operators, after an operand that was read already: from the tightest outward.
 //!
-//! Each group asks first by the kind of the next token whether an operator of its levels can stand there.
+//! Each group first asks, by the kind of the next token, whether an operator of its levels can follow.
 
 ghost use Rattle.es_grammar.specs.Expressions.{level, private_in};
 ghost use Rattle.es_shared_rules.specs.predicates.Named.{kinds_of};
@@ -137,7 +137,7 @@ impl ReadsBehind<Row> for Compared {
     }
 }
 
-/// The same behind PrivateName 'in' Shift.
+/// The same after PrivateName 'in' Shift.
 #[derive(Clone, Copy)]
 pub struct PrivateCompared(pub Lang, pub Context);
 
@@ -155,8 +155,8 @@ impl ReadsProduction<Row> for PrivateCompared {
     }
 }
 
-/// Relations: where a private name stands first, it is read anew, since it is no operand. What was written of it is taken
-/// away.
+/// Relations: where a private name comes first, it is read again, since it isn't an operand. What was written of it is
+/// removed.
 #[derive(Clone, Copy)]
 pub struct Related(pub Lang, pub Context);
 
@@ -182,7 +182,7 @@ impl ReadsBehind<Row> for Related {
     }
 }
 
-/// Shifts behind a type of TypeScript.
+/// Shifts after a type of TypeScript.
 #[derive(Clone, Copy)]
 pub struct BehindTypes(pub Lang, pub Context);
 

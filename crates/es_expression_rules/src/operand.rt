@@ -1,4 +1,4 @@
-//! An operand, and turns behind it, where one stands there.
+//! An operand, and the turns after it, if any.
 
 ghost use Rattle.grammar_theory.specs.Productions.{wrap};
 
@@ -6,7 +6,7 @@ use es_grammar::{NodeKind, Row};
 use es_rules::{Cursor, Grammar, ReadsBehind, ReadsProduction, ReadsRhs, Rows, Tells, Turns};
 use grammar_theory::SyntaxError;
 
-/// What `Wrap` reads. Most operands stand alone: such a one is answered as it was read, with no look at the turns.
+/// What `Wrap` reads. Most operands have no turns: such an operand is returned as it was read, without `Turns`.
 #[derive(Clone, Copy)]
 pub struct Operand<A, C, P>(pub NodeKind, pub A, pub C, pub P);
 

@@ -75,7 +75,7 @@ impl ReadsProduction<Row> for UpdatePrefix {
     }
 }
 
-/// ('delete' | 'void' | 'typeof' | '+' | '-' | '~' | '!') Unary, and what stands behind it.
+/// ('delete' | 'void' | 'typeof' | '+' | '-' | '~' | '!') Unary, and what follows.
 #[derive(Clone, Copy)]
 pub struct Prefix<N>(pub Context, pub N);
 
@@ -100,7 +100,7 @@ impl<N: ReadsRhs<Row> + Copy> ReadsProduction<Row> for Prefix<N> {
     }
 }
 
-/// 'await' Unary, in modules and in async functions, and what stands behind it.
+/// 'await' Unary, in modules and in async functions, and what follows.
 #[derive(Clone, Copy)]
 pub struct Await<N>(pub Context, pub N);
 
@@ -148,7 +148,7 @@ impl ReadsProduction<Row> for Unary {
     }
 }
 
-/// In TypeScript no `**` stands here.
+/// In TypeScript no `**` comes next.
 #[derive(Clone, Copy)]
 pub struct NoPower(pub Lang);
 
@@ -520,7 +520,7 @@ impl ReadsProduction<Row> for BitOr {
     }
 }
 
-/// '&&' behind an operand.
+/// '&&' after an operand.
 #[derive(Clone, Copy)]
 pub struct And<A>(pub Context, pub A);
 

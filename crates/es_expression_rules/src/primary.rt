@@ -225,7 +225,7 @@ impl ReadsProduction<Row> for NamedPrimary {
     }
 }
 
-/// Prim: what stands alone as an operand. Its first token tells which alternative is read.
+/// Prim: what is an operand by itself. Its first token says which alternative is read.
 #[derive(Clone, Copy)]
 pub struct Primary(pub Lang, pub Context);
 

@@ -33,7 +33,7 @@ impl ReadsRhs<Row> for NoForm {
     }
 }
 
-/// A simple target: a chain, in TypeScript with `as` and `satisfies` behind it.
+/// A simple target: a chain, in TypeScript with `as` and `satisfies` after it.
 #[derive(Clone, Copy)]
 pub struct Target(pub Lang, pub Context);
 
@@ -133,7 +133,7 @@ impl ReadsProduction<Row> for PatternElement {
     }
 }
 
-/// Pat, or in scripts behind 'var': Name '=' Assign, before `in`
+/// Pat, or in scripts after 'var': Name '=' Assign, before `in`
 #[derive(Clone, Copy)]
 pub struct HeadPattern(pub Lang, pub Context);
 

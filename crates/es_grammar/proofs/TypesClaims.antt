@@ -8,32 +8,13 @@ use Rattle.grammar_theory.proofs.EachKind.{holds_everywhere}
 use Rattle.grammar_theory.proofs.OutLemmas.{clash}
 use Rattle.es_grammar.specs.declared.types.rows.TypeRow.{TypeRow as Row}
 use Rattle.es_grammar.specs.declared.types.rows.TypeRow.TheVariants.{TypeRow, IntersectionRow, OperandRow, ReferenceRow, EntityRow, ImportRow, ArgumentsRow, TypeParametersRow, OpenedFunctionRow, OpenedParametersRow, ElementRow, MemberRow, KeyRow, ResultRow, ParametersRow, ParameterRow, PatternRow, PatternElementRow, PatternPropertyRow, PatternKeyRow}
-use Rattle.es_grammar.specs.types.Words.{is_name, is_word, is_name_or_this, is_numeric, is_sign, is_accessor_word, is_near, begins_key}
-use Rattle.es_grammar.specs.types.TypeNames.{further_names, entity, opens_arguments, no_arguments, further_arguments, listed_parameters, opened_parameters, opened_function, begins_angle, begins_type_parameter, shows_type_parameter, opens_angle, reference, import_type, arguments, is_modifier, opens_modifier, type_parameter, type_parameters}
-use Rattle.es_grammar.specs.types.Parameters.{parameters_in, mark_in, type_in, list_before, is_parameter, parameters, has_mark, no_mark, name_pattern, array_pattern, object_pattern, pattern, parameter, pattern_element, pattern_key, opens_value, pattern_property}
-use Rattle.es_grammar.specs.types.Members.{result_in, is_separator, may_separate, separator, opens_parameters, call_signature, opens_construct, construct_signature, opens_readonly, shows_index, opens_index, index_signature, opens_accessor, accessor_signature, opens_method, method_signature, property_signature, is_property_key, readonly_property, member, computed_key, key}
-use Rattle.es_grammar.specs.types.Types.{is_literal_word, begins_type, parenthesized_type, members_type, shows_mapped, opens_mapped, sign_in, begins_signed, mapped_type, tuple_type, type_query, opens_this_reference, is_type_word, is_keyword_type, template_types, number_type, primary_type, opens_brackets, brackets_in, array_types, is_type_operator, opens_operator, opens_infer, operand_type, operands_in, intersection_type, union_type, opens_condition, no_condition, conditional_type, opens_function, function_type, opens_constructor, constructor_type, any_type, is_label, label_in, element, is_asserted_name, opens_asserts, opens_predicate, result}
-use Rattle.es_grammar.specs.types.TypeTable.{type_rule}
 use Rattle.es_grammar.specs.declared.rows.Row.TheVariants.{TypesRow}
 use Rattle.es_grammar.specs.Table.{rule}
 use Rattle.es_grammar.proofs.Sets.{first, follow, solid, sets}
+use Rattle.es_grammar.proofs.types_lemmas.OnRows.{types_on_rows}
 
 pub rows_take : (l : Lang) (r : Row) → solid (TypesRow r) ≡ true → rule_takes solid (rule l (TypesRow r)) ≡ true
-unfolding is_name is_word is_name_or_this is_numeric is_sign is_accessor_word is_near begins_key further_names entity
-    opens_arguments no_arguments further_arguments listed_parameters opened_parameters opened_function begins_angle
-    begins_type_parameter shows_type_parameter opens_angle reference import_type arguments is_modifier
-    opens_modifier type_parameter
-    type_parameters parameters_in mark_in type_in list_before is_parameter parameters has_mark no_mark name_pattern
-    array_pattern object_pattern pattern parameter pattern_element pattern_key opens_value pattern_property result_in
-    is_separator may_separate separator opens_parameters call_signature opens_construct construct_signature
-    opens_readonly shows_index opens_index index_signature opens_accessor accessor_signature opens_method
-    method_signature property_signature is_property_key readonly_property member computed_key key is_literal_word
-    begins_type parenthesized_type members_type shows_mapped opens_mapped sign_in begins_signed mapped_type tuple_type
-    type_query opens_this_reference is_type_word is_keyword_type template_types number_type primary_type
-    opens_brackets brackets_in array_types is_type_operator opens_operator opens_infer operand_type operands_in
-    intersection_type union_type opens_condition no_condition conditional_type opens_function function_type
-    opens_constructor constructor_type any_type is_label label_in element is_asserted_name opens_asserts
-    opens_predicate result type_rule rule holds_everywhere
+unfolding types_on_rows rule holds_everywhere
 rows_take l (TypeRow true) h = refl
 rows_take l (TypeRow false) h = refl
 rows_take l IntersectionRow h = refl
@@ -58,21 +39,7 @@ rows_take l PatternPropertyRow h = refl
 rows_take l PatternKeyRow h = refl
 
 pub parts_take : (l : Lang) (r : Row) → rule_parts_take solid (rule l (TypesRow r)) ≡ true
-unfolding is_name is_word is_name_or_this is_numeric is_sign is_accessor_word is_near begins_key further_names entity
-    opens_arguments no_arguments further_arguments listed_parameters opened_parameters opened_function begins_angle
-    begins_type_parameter shows_type_parameter opens_angle reference import_type arguments is_modifier
-    opens_modifier type_parameter
-    type_parameters parameters_in mark_in type_in list_before is_parameter parameters has_mark no_mark name_pattern
-    array_pattern object_pattern pattern parameter pattern_element pattern_key opens_value pattern_property result_in
-    is_separator may_separate separator opens_parameters call_signature opens_construct construct_signature
-    opens_readonly shows_index opens_index index_signature opens_accessor accessor_signature opens_method
-    method_signature property_signature is_property_key readonly_property member computed_key key is_literal_word
-    begins_type parenthesized_type members_type shows_mapped opens_mapped sign_in begins_signed mapped_type tuple_type
-    type_query opens_this_reference is_type_word is_keyword_type template_types number_type primary_type
-    opens_brackets brackets_in array_types is_type_operator opens_operator opens_infer operand_type operands_in
-    intersection_type union_type opens_condition no_condition conditional_type opens_function function_type
-    opens_constructor constructor_type any_type is_label label_in element is_asserted_name opens_asserts
-    opens_predicate result type_rule rule holds_everywhere
+unfolding types_on_rows rule holds_everywhere
 parts_take l (TypeRow true) = refl
 parts_take l (TypeRow false) = refl
 parts_take l IntersectionRow = refl
@@ -99,21 +66,7 @@ parts_take l PatternKeyRow = refl
 pub begins : (l : Lang) (r : Row)
     → holds_everywhere (λ x. implies (rule_starts (sets l) (rule l (TypesRow r)) none x) (first l (TypesRow r) x))
     ≡ true
-unfolding is_name is_word is_name_or_this is_numeric is_sign is_accessor_word is_near begins_key further_names entity
-    opens_arguments no_arguments further_arguments listed_parameters opened_parameters opened_function begins_angle
-    begins_type_parameter shows_type_parameter opens_angle reference import_type arguments is_modifier
-    opens_modifier type_parameter
-    type_parameters parameters_in mark_in type_in list_before is_parameter parameters has_mark no_mark name_pattern
-    array_pattern object_pattern pattern parameter pattern_element pattern_key opens_value pattern_property result_in
-    is_separator may_separate separator opens_parameters call_signature opens_construct construct_signature
-    opens_readonly shows_index opens_index index_signature opens_accessor accessor_signature opens_method
-    method_signature property_signature is_property_key readonly_property member computed_key key is_literal_word
-    begins_type parenthesized_type members_type shows_mapped opens_mapped sign_in begins_signed mapped_type tuple_type
-    type_query opens_this_reference is_type_word is_keyword_type template_types number_type primary_type
-    opens_brackets brackets_in array_types is_type_operator opens_operator opens_infer operand_type operands_in
-    intersection_type union_type opens_condition no_condition conditional_type opens_function function_type
-    opens_constructor constructor_type any_type is_label label_in element is_asserted_name opens_asserts
-    opens_predicate result type_rule rule holds_everywhere
+unfolding types_on_rows rule holds_everywhere
 begins l (TypeRow true) = refl
 begins l (TypeRow false) = refl
 begins l IntersectionRow = refl
@@ -139,21 +92,7 @@ begins l PatternKeyRow = refl
 
 pub tests_tell : (l : Lang) (r : Row)
     → holds_everywhere (rule_tells (sets l) (rule l (TypesRow r)) (follow (TypesRow r))) ≡ true
-unfolding is_name is_word is_name_or_this is_numeric is_sign is_accessor_word is_near begins_key further_names entity
-    opens_arguments no_arguments further_arguments listed_parameters opened_parameters opened_function begins_angle
-    begins_type_parameter shows_type_parameter opens_angle reference import_type arguments is_modifier
-    opens_modifier type_parameter
-    type_parameters parameters_in mark_in type_in list_before is_parameter parameters has_mark no_mark name_pattern
-    array_pattern object_pattern pattern parameter pattern_element pattern_key opens_value pattern_property result_in
-    is_separator may_separate separator opens_parameters call_signature opens_construct construct_signature
-    opens_readonly shows_index opens_index index_signature opens_accessor accessor_signature opens_method
-    method_signature property_signature is_property_key readonly_property member computed_key key is_literal_word
-    begins_type parenthesized_type members_type shows_mapped opens_mapped sign_in begins_signed mapped_type tuple_type
-    type_query opens_this_reference is_type_word is_keyword_type template_types number_type primary_type
-    opens_brackets brackets_in array_types is_type_operator opens_operator opens_infer operand_type operands_in
-    intersection_type union_type opens_condition no_condition conditional_type opens_function function_type
-    opens_constructor constructor_type any_type is_label label_in element is_asserted_name opens_asserts
-    opens_predicate result type_rule rule holds_everywhere
+unfolding types_on_rows rule holds_everywhere
 tests_tell l (TypeRow true) = refl
 tests_tell l (TypeRow false) = refl
 tests_tell l IntersectionRow = refl

@@ -1,8 +1,7 @@
+pub mod OnRows
+mod OnKeys
 mod TypeClaims
-mod Claims
 pub mod OrderLemmas
 pub mod Theorems
 mod WorkedTypes
 mod WorkedRefusals
-mod WorkedPrograms
-mod WorkedErrors

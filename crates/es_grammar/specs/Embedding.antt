@@ -12,7 +12,7 @@ use Rattle.grammar_theory.specs.Reader.{Out, nothing, gives, read_row}
 use Rattle.es_grammar.specs.types.Words.{only, is_name, is_word, is_other}
 use Rattle.es_grammar.specs.types.Modules.{opens_type_import}
 use Rattle.es_grammar.specs.types.TypeNames.{begins_angle}
-use Rattle.es_grammar.specs.declared.types.rows.Row as programs
+use Rattle.es_grammar.specs.declared.types.rows.Row as modules
 use Rattle.es_grammar.specs.declared.types.rows.Row.TheVariants as rows
 use Rattle.es_grammar.specs.declared.types.rows.NodeKind as labels
 use Rattle.es_grammar.specs.declared.types.rows.NodeKind.TheVariants as named
@@ -24,8 +24,7 @@ use Rattle.es_grammar.specs.TypeNames.{label_name}
 use Rattle.es_grammar.specs.types.TypeTable.{type_rule}
 use Rattle.es_grammar.specs.declared.rows.Row.{Row}
 use Rattle.es_grammar.specs.declared.rows.NodeKind.{NodeKind}
-use Rattle.es_grammar.specs.declared.rows.Row.TheVariants.{ModuleRow, ScriptRow, ItemRow, ClauseRow, NamedRow, ImportSpecifierRow, ExportSpecifierRow, AttributesRow, EntityRow, StatementRow, BlockRow, DeclarationRow, VariablesRow, DeclaratorRow, UsingRow, HeadRow, HeadPatternRow, FunctionRow, ClassRow, SignatureRow, ParametersRow, ParameterRow, PatternRow, InnerPatternRow, PatternElementRow, PatternPropertyRow, MemberRow, PropertyRow, KeyRow, ExpressionRow, AssignmentRow, AndRow, BitOrRow, BitXorRow, BitAndRow, EqualityRow, RelationRow, ShiftRow, SumRow, ProductRow, PowerRow, UnaryRow, ChainRow, CalleeRow, PostRow, MemberPostRow, ArgumentsRow, ElementRow, TemplateRow, TypesRow}
-use Rattle.es_grammar.specs.Rows.{widened, in_module}
+use Rattle.es_grammar.specs.declared.rows.Row.TheVariants.{ClauseRow, NamedRow, ImportSpecifierRow, ExportSpecifierRow, AttributesRow, EntityRow, TypesRow}
 
 -- ---- mapped rules
 
@@ -50,61 +49,18 @@ mapped_rule f w (as_ l a) = as_ (w l) (mapped_rule f w a)
 mapped_rule f w (pick g a b) = pick g (mapped_rule f w a) (mapped_rule f w b)
 mapped_rule f w (wrap l a c g) = wrap (w l) (mapped_rule f w a) c (mapped_form f g)
 
--- ---- rows of the plain table
+-- ---- rows of imports and exports
 
--- a row of the plain table, in this one; the language is that of the table
-abbrev pub row_of : programs.Row → Row
-row_of (rows.ModuleRow l) = ModuleRow
-row_of rows.ScriptRow = ScriptRow
-row_of (rows.ItemRow l) = ItemRow in_module
+-- a row of what imports and exports bind, in this table; the language is that of the table
+abbrev pub row_of : modules.Row → Row
 row_of (rows.ClauseRow l) = ClauseRow
 row_of (rows.NamedRow l) = NamedRow
 row_of (rows.ImportSpecifierRow l) = ImportSpecifierRow
 row_of (rows.ExportSpecifierRow l) = ExportSpecifierRow
 row_of rows.AttributesRow = AttributesRow
 row_of rows.EntityRow = EntityRow
-row_of (rows.StatementRow c) = StatementRow (widened c)
-row_of (rows.BlockRow c) = BlockRow (widened c)
-row_of (rows.DeclarationRow c) = DeclarationRow (widened c)
-row_of (rows.VariablesRow c) = VariablesRow (widened c)
-row_of (rows.DeclaratorRow c) = DeclaratorRow (widened c)
-row_of (rows.UsingRow c) = UsingRow (widened c)
-row_of (rows.HeadRow c) = HeadRow (widened c)
-row_of (rows.HeadPatternRow c) = HeadPatternRow (widened c)
-row_of (rows.FunctionRow named c) = FunctionRow named (widened c)
-row_of (rows.ClassRow named c) = ClassRow named (widened c)
-row_of (rows.SignatureRow c) = SignatureRow (widened c)
-row_of (rows.ParametersRow c) = ParametersRow (widened c)
-row_of (rows.ParameterRow c) = ParameterRow (widened c)
-row_of (rows.PatternRow t c) = PatternRow t (widened c)
-row_of (rows.InnerPatternRow t c) = InnerPatternRow t (widened c)
-row_of (rows.PatternElementRow t c) = PatternElementRow t (widened c)
-row_of (rows.PatternPropertyRow t c) = PatternPropertyRow t (widened c)
-row_of (rows.MemberRow c) = MemberRow (widened c)
-row_of (rows.PropertyRow c) = PropertyRow (widened c)
-row_of (rows.KeyRow p c) = KeyRow p (widened c)
-row_of (rows.ExpressionRow c) = ExpressionRow (widened c)
-row_of (rows.AssignmentRow c) = AssignmentRow (widened c)
-row_of (rows.AndRow c) = AndRow (widened c)
-row_of (rows.BitOrRow c) = BitOrRow (widened c)
-row_of (rows.BitXorRow c) = BitXorRow (widened c)
-row_of (rows.BitAndRow c) = BitAndRow (widened c)
-row_of (rows.EqualityRow c) = EqualityRow (widened c)
-row_of (rows.RelationRow c) = RelationRow (widened c)
-row_of (rows.ShiftRow c) = ShiftRow (widened c)
-row_of (rows.SumRow c) = SumRow (widened c)
-row_of (rows.ProductRow c) = ProductRow (widened c)
-row_of (rows.PowerRow c) = PowerRow (widened c)
-row_of (rows.UnaryRow c) = UnaryRow (widened c)
-row_of (rows.ChainRow c) = ChainRow (widened c)
-row_of (rows.CalleeRow c) = CalleeRow (widened c)
-row_of (rows.PostRow c) = PostRow (widened c)
-row_of (rows.MemberPostRow c) = MemberPostRow (widened c)
-row_of (rows.ArgumentsRow c) = ArgumentsRow (widened c)
-row_of (rows.ElementRow c) = ElementRow (widened c)
-row_of (rows.TemplateRow c) = TemplateRow (widened c)
 
--- an alternative of the plain table, in this one
+-- an alternative of imports and of exports of names, in this table
 abbrev pub label_of : labels.NodeKind → NodeKind
 label_of named.BareImport = here.BareImport
 label_of named.FromImport = here.FromImport
@@ -126,121 +82,15 @@ label_of named.ExportNamespace = here.ExportNamespace
 label_of named.ExportedName = here.ExportedName
 label_of named.Attributes = here.Attributes
 label_of named.Entity = here.Entity
-label_of named.ExportDefaultFunction = here.ExportDefaultFunction
-label_of named.ExportDefaultClass = here.ExportDefaultClass
-label_of named.ExportDefaultExpression = here.ExportDefaultExpression
-label_of named.ExportDeclaration = here.ExportDeclaration
-label_of named.Module = here.Module
-label_of named.Script = here.Script
-label_of named.Block = here.Block
-label_of named.EmptyStatement = here.EmptyStatement
-label_of named.ExpressionStatement = here.ExpressionStatement
-label_of named.LabelledStatement = here.LabelledStatement
-label_of named.IfStatement = here.IfStatement
-label_of named.ForStatement = here.ForStatement
-label_of named.ForEachStatement = here.ForEachStatement
-label_of named.ForAwaitStatement = here.ForAwaitStatement
-label_of named.WhileStatement = here.WhileStatement
-label_of named.DoStatement = here.DoStatement
-label_of named.ContinueStatement = here.ContinueStatement
-label_of named.BreakStatement = here.BreakStatement
-label_of named.ReturnStatement = here.ReturnStatement
-label_of named.ThrowStatement = here.ThrowStatement
-label_of named.SwitchStatement = here.SwitchStatement
-label_of named.TryStatement = here.TryStatement
-label_of named.DebuggerStatement = here.DebuggerStatement
-label_of named.WithStatement = here.WithStatement
-label_of named.VariableDeclaration = here.VariableDeclaration
-label_of named.UsingDeclaration = here.UsingDeclaration
-label_of named.Variables = here.Variables
-label_of named.Declarator = here.Declarator
-label_of named.Using = here.Using
-label_of named.VariableHead = here.VariableHead
-label_of named.UsingHead = here.UsingHead
-label_of named.Target = here.Target
-label_of named.AsyncFunction = here.AsyncFunction
-label_of named.Function = here.Function
-label_of named.Signature = here.Signature
-label_of named.Parameters = here.Parameters
-label_of named.DefaultParameter = here.DefaultParameter
-label_of named.NamePattern = here.NamePattern
-label_of named.ArrayPattern = here.ArrayPattern
-label_of named.ObjectPattern = here.ObjectPattern
-label_of named.RestPattern = here.RestPattern
-label_of named.DefaultPattern = here.DefaultPattern
-label_of named.RestProperty = here.RestProperty
-label_of named.KeyPattern = here.KeyPattern
-label_of named.NameProperty = here.NameProperty
-label_of named.Class = here.Class
-label_of named.EmptyMember = here.EmptyMember
-label_of named.StaticBlock = here.StaticBlock
-label_of named.AccessorMember = here.AccessorMember
-label_of named.AsyncMember = here.AsyncMember
-label_of named.GeneratorMember = here.GeneratorMember
-label_of named.MethodMember = here.MethodMember
-label_of named.FieldMember = here.FieldMember
-label_of named.AccessorField = here.AccessorField
-label_of named.WordKey = here.WordKey
-label_of named.StrKey = here.StrKey
-label_of named.NumberKey = here.NumberKey
-label_of named.ComputedKey = here.ComputedKey
-label_of named.PrivateKey = here.PrivateKey
-label_of named.Sequence = here.Sequence
-label_of named.Yield = here.Yield
-label_of named.PatternAssignment = here.PatternAssignment
-label_of named.Assignment = here.Assignment
-label_of named.NameArrow = here.NameArrow
-label_of named.ParenthesizedArrow = here.ParenthesizedArrow
-label_of named.AsyncNameArrow = here.AsyncNameArrow
-label_of named.AsyncParenthesizedArrow = here.AsyncParenthesizedArrow
-label_of named.Conditional = here.Conditional
-label_of named.Binary = here.Binary
-label_of named.PrivateIn = here.PrivateIn
-label_of named.UnaryExpression = here.UnaryExpression
-label_of named.AwaitExpression = here.AwaitExpression
-label_of named.UpdatePrefix = here.UpdatePrefix
-label_of named.UpdatePostfix = here.UpdatePostfix
-label_of named.Chain = here.Chain
-label_of named.MemberPost = here.MemberPost
-label_of named.IndexPost = here.IndexPost
-label_of named.CallPost = here.CallPost
-label_of named.TemplatePost = here.TemplatePost
-label_of named.OptionalPost = here.OptionalPost
-label_of named.Super = here.Super
-label_of named.ImportCall = here.ImportCall
-label_of named.SourceCall = here.SourceCall
-label_of named.DeferCall = here.DeferCall
-label_of named.ImportMeta = here.ImportMeta
-label_of named.NewTarget = here.NewTarget
-label_of named.New = here.New
-label_of named.Arguments = here.Arguments
-label_of named.Name = here.Name
-label_of named.Word = here.Word
-label_of named.Number = here.Number
-label_of named.Str = here.Str
-label_of named.RegExp = here.RegExp
-label_of named.Template = here.Template
-label_of named.TemplateParts = here.TemplateParts
-label_of named.Parenthesized = here.Parenthesized
-label_of named.ArrayLiteral = here.ArrayLiteral
-label_of named.ObjectLiteral = here.ObjectLiteral
-label_of named.Spread = here.Spread
-label_of named.SpreadProperty = here.SpreadProperty
-label_of named.AccessorProperty = here.AccessorProperty
-label_of named.AsyncProperty = here.AsyncProperty
-label_of named.GeneratorProperty = here.GeneratorProperty
-label_of named.MethodProperty = here.MethodProperty
-label_of named.KeyValue = here.KeyValue
-label_of named.Shorthand = here.Shorthand
 
--- a rule of the plain table, in this one
-abbrev pub plain_rule : Production programs.Row labels.NodeKind → Production Row NodeKind
+-- such a rule, or a part of one, in this table
+abbrev pub plain_rule : Production modules.Row labels.NodeKind → Production Row NodeKind
 plain_rule a = mapped_rule row_of label_of a
 
-abbrev pub plain_form : Rhs programs.Row → Rhs Row
+abbrev pub plain_form : Rhs modules.Row → Rhs Row
 plain_form f = mapped_form row_of f
 
--- ---- parts of imports and exports, behind which stands more: as in the plain table, with rows of this one
+-- ---- parts of imports and exports, with rows of this table after them
 
 -- a word or a string literal, and what stands behind it
 unfoldable pub word_or_str_in : Rhs Row → Rhs Row

@@ -1,8 +1,7 @@
 -- Where a row of programs stands; its type, those of the rows and of the alternatives are in src/rows.rt.
-use Rattle.std.specs.Prelude.{Bool, true, false, not}
+use Rattle.std.specs.Prelude.{Bool, true, false}
 use Rattle.grammar_theory.specs.declared.error.Lang.{Lang}
 use Rattle.grammar_theory.specs.declared.error.Lang.TheVariants as lang
-use Rattle.es_grammar.specs.declared.types.rows.Context as programs
 use Rattle.es_grammar.specs.declared.rows.Context.{Context}
 
 -- the language is TypeScript
@@ -11,17 +10,6 @@ is_typescript lang.Es = false
 is_typescript lang.Typescript = true
 
 -- ---- places
-
--- the place of the plain table
-abbrev pub widened : programs.Context → Context
-widened c = record {
-  script = c.script;
-  as_module = not c.script;
-  no_in = c.no_in;
-  in_async = c.in_async;
-  no_colon = false;
-  in_constructor = false;
-}
 
 -- the outside of a module, and of a script
 abbrev pub in_module : Context

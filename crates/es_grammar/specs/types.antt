@@ -2,18 +2,14 @@
 pub mod Words
 -- the parts of a tree stand in order
 pub mod Order
--- programs, as far as they stand: the areas of their table, the table; their rows are in src/rows.rt
+-- imports and exports of names: their rules; their rows are in src/types/rows.rt
 pub mod Modules
+-- predicates of programs, by their areas
 pub mod Expressions
 pub mod Functions
 pub mod Classes
 pub mod Statements
 pub mod Items
-pub mod Table
--- what is asked of a tree besides the rows
-pub mod Conditions
--- what is read as a program, for worked rows
-pub mod ProgramReader
 -- the types of TypeScript: their rows, the areas of their table, the table
 pub mod TypeRows
 pub mod TypeNames

@@ -2,7 +2,7 @@
 //!
 //! - `Cst`: the nodes, and the tokens that are kept (`slim`, `specs/cst/Slim.antt`).
 //!
-//! It stands below the readers, so that what is made of such a tree stands on no reader.
+//! It is below the readers, so that what is made of such a tree depends on no reader.
 
 mod tree;
 

@@ -1,13 +1,13 @@
-//! The rows of programs in both languages, the alternatives that make a node, and where a row stands.
+//! The rows of programs in both languages, the alternatives that make a node, and where a row occurs.
 
 use crate::types::TypeRow;
 
-/// Where a row stands.
+/// Where a row occurs.
 #[derive(Clone, Copy, Debug, PartialEq, Eq)]
 pub struct Context {
-    /// What scripts alone have may stand here.
+    /// What scripts alone have is allowed here.
     pub script: bool,
-    /// What modules alone have may stand here.
+    /// What modules alone have is allowed here.
     pub as_module: bool,
     /// In the head of a `for`, where `in` is no operator.
     pub no_in: bool,

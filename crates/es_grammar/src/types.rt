@@ -1,13 +1,17 @@
-//! The grammar of JavaScript and TypeScript programs as tables: definitions and their laws. It is written in the
-//! language of `grammar_theory` (`specs/types/Productions.antt` there).
+//! The types of TypeScript, which hold no expression and so are a table of their own, and the rows of what imports and
+//! exports bind. They are written in the language of `grammar_theory` (`specs/Productions.antt` there).
 //!
-//! - `Row`, `NodeKind`, `Context`: the rows of programs, the alternatives that make a node, and where a row stands.
-//! - `specs/types/TypeTable.antt`: the types of TypeScript, which hold no expression and so are a table by themselves; its
-//!   areas stand in `specs/types/Types.antt`, `Members.antt`, `Parameters.antt` and `TypeNames.antt`.
-//! - `proofs/types_lemmas/Theorems.antt`: keys of tokens have at most one tree, and no test that only chooses bars a reading.
+//! - `specs/types/TypeTable.antt`: the table of types; its areas are `specs/types/Types.antt`, `Members.antt`,
+//!   `Parameters.antt` and `TypeNames.antt`.
+//! - `specs/types/Modules.antt`: imports and exports of names, by the language.
+//! - `specs/types/Expressions.antt`, `Functions.antt`, `Classes.antt`, `Statements.antt`, `Items.antt`: the predicates of
+//!   programs that no type is part of.
+//! - `proofs/types_lemmas/Theorems.antt`: keys of tokens have at most one tree as a type, and no test that only chooses bars
+//!   a reading.
 //!
-//! `docs/GRAMMAR.md` tells the rows in words.
+//! `docs/GRAMMAR.md` describes the rows in prose.
 
 mod rows;
 
-pub use rows::{Context, NodeKind, Row, TypeRow};
+pub use crate::rows::Context;
+pub use rows::{NodeKind, Row, TypeRow};

@@ -1,8 +1,8 @@
-//! Laws alone: where string literals and import sites stand in a tree.
+//! Laws alone: where string literals and import sites are in a tree.
 //!
-//! `literal_places`: Where string literals stand in a plain tree of the table of programs (`es_grammar`): laws, and no code.
+//! `literal_places`: Where string literals are in a plain tree of the table of programs (`es_grammar`): laws, and no code.
 //!
-//! - `strs` (`proofs/literal_places/Theorems.antt`): behind `from`, in `import "a"`, in `require("a")` and where an expression, a key or a
+//! - `strs` (`proofs/literal_places/Theorems.antt`): after `from`, in `import "a"`, in `require("a")` and where an expression, a key or a
 //! type is a string literal, the token that is kept is one.
 //!
 //! `plain`: The sites of a program from its plain tree, and the law that they are those of its typed tree: no code.

@@ -28,7 +28,7 @@ pub struct OpenBracket {
     pub kind: BracketKind,
     /// The number of its token.
     pub number: usize,
-    /// Whether it stands behind `if`, `for`, `while`, `with` or `for await`.
+    /// Whether it follows `if`, `for`, `while`, `with` or `for await`.
     pub headed: bool,
 }
 
@@ -63,7 +63,7 @@ pub fn is_open(bracket: Option<BracketKind>, kind: BracketKind) -> bool
     }
 }
 
-/// Whether a token of this role may stand where this is the innermost open bracket.
+/// Whether a token of this role is allowed where this is the innermost open bracket.
 #[tactic(auto, unfolding(crate::specs::Brackets::may_close))]
 pub fn may_close(bracket: Option<BracketKind>, role: Role) -> bool
     ensures { result ≡ may_close bracket role }

@@ -17,7 +17,7 @@ pub enum First {
     Slash,
     /// A template.
     Backtick,
-    /// A closing brace, or what goes on behind `${`.
+    /// A closing brace, or what continues after `${`.
     Brace,
     /// A private name.
     Hash,
@@ -60,7 +60,7 @@ pub fn is_blank(b: u8) -> bool
     matches!(b, b'\t' | 0x0B | 0x0C | b' ')
 }
 
-/// 1 for the bytes of ASCII that may stand in a name: letters, digits, `$` and `_`.
+/// 1 for the bytes of ASCII that a name may have: letters, digits, `$` and `_`.
 const PARTS: [u8; 256] = [
     0, 0, 0, 0, 0, 0, 0, 0, 0, 0, 0, 0, 0, 0, 0, 0, 0, 0, 0, 0, 0, 0, 0, 0, 0, 0, 0, 0, 0, 0, 0, 0,
     0, 0, 0, 0, 1, 0, 0, 0, 0, 0, 0, 0, 0, 0, 0, 0, 1, 1, 1, 1, 1, 1, 1, 1, 1, 1, 0, 0, 0, 0, 0, 0,
@@ -91,7 +91,7 @@ const LETTERS: [u8; 256] = [
     0, 0, 0, 0, 0, 0, 0, 0, 0, 0, 0, 0, 0, 0, 0, 0, 0, 0, 0, 0, 0, 0, 0, 0, 0, 0, 0, 0, 0, 0, 0, 0,
 ];
 
-/// Whether this byte begins a word; told by a table, so that no table of all classes is looked at for it.
+/// Whether this byte begins a word, by a table of its own instead of the table of all classes.
 #[tactic(auto, using(crate::proofs::TableLemmas::letter_told))]
 pub fn is_letter(b: u8) -> bool
     ensures { result ≡ is_letter (first_of b) }
@@ -99,7 +99,7 @@ pub fn is_letter(b: u8) -> bool
     LETTERS[b as usize] == 1
 }
 
-/// The size of the character of a name that stands here, 0 where none does.
+/// The size of the character of a name that comes next, 0 where none does.
 #[tactic(auto, unfolding(crate::specs::Bytes::part_unit))]
 pub fn part_unit(text: &[u8]) -> usize
     ensures value { result ≡ part_unit text.now }
@@ -119,7 +119,7 @@ pub fn part_unit(text: &[u8]) -> usize
     }
 }
 
-/// The size of the part of a name that stands here, a character or an escape of one, 0 where none does.
+/// The size of the part of a name that comes next, a character or an escape of one, 0 where none does.
 #[tactic(auto, unfolding(crate::specs::Bytes::word_unit))]
 pub fn word_unit(text: &[u8]) -> usize
     ensures value { result ≡ word_unit text.now }
@@ -141,7 +141,7 @@ pub fn word_unit(text: &[u8]) -> usize
     }
 }
 
-/// Whether an ASCII byte stands here that is no part of a name and begins none, or nothing.
+/// Whether an ASCII byte comes next that is no part of a name and begins none, or nothing.
 #[inline(always)]
 #[tactic(auto, unfolding(crate::specs::Bytes::word_unit, crate::specs::Bytes::part_unit, crate::specs::Bytes::ends_plainly))]
 pub fn ends_word(text: &[u8]) -> bool
@@ -164,7 +164,7 @@ pub fn ends_word(text: &[u8]) -> bool
     }
 }
 
-/// Whether what stands here may not stand right behind a number.
+/// Whether what comes next isn't allowed directly after a number.
 #[tactic(auto, unfolding(crate::specs::Bytes::joins))]
 pub fn joins(text: &[u8]) -> bool
     ensures { result ≡ joins text.now }
@@ -182,7 +182,7 @@ pub fn begins_backslash(text: &[u8]) -> bool
     }
 }
 
-/// Whether `\u` stands here.
+/// Whether `\u` comes next.
 #[tactic(auto, unfolding(crate::specs::Bytes::begins_escape))]
 pub fn begins_escape(text: &[u8]) -> bool
     ensures { result ≡ begins_escape text.now }
@@ -193,7 +193,7 @@ pub fn begins_escape(text: &[u8]) -> bool
     }
 }
 
-/// Whether the start of a name stands here.
+/// Whether the start of a name comes next.
 #[tactic(auto, unfolding(crate::specs::Bytes::begins_name))]
 pub fn begins_name(text: &[u8]) -> bool
     ensures { result ≡ begins_name text.now }

@@ -4,7 +4,7 @@ ghost use Rattle.es_lexer.specs.Goal.{slash_rule, is_member, is_for, divides_beh
 use crate::bracket::BracketKind;
 use es_token::TokenKind;
 
-/// What may stand at a place, by what stands before it (ECMA-262, "Lexical Grammar", its goal symbols).
+/// What is allowed at an offset, by what precedes it (ECMA-262, "Lexical Grammar", its goal symbols).
 #[derive(Clone, Copy)]
 pub struct Goal {
     /// The innermost open bracket.
@@ -17,14 +17,14 @@ pub struct Goal {
     pub front: bool,
 }
 
-/// What a token says of a `/` behind it.
+/// What a token says of a `/` after it.
 #[derive(Clone, Copy)]
 pub enum SlashRule {
     /// It divides.
     Divides,
-    /// By what stands before the parenthesis that the token closes.
+    /// By what precedes the parenthesis that the token closes.
     ByParenthesis,
-    /// As behind the token before, where that one is on the same line.
+    /// As after the token before, where that one is on the same line.
     ByLine,
     /// It begins a regular expression.
     Begins,
@@ -35,7 +35,7 @@ pub enum SlashRule {
 pub struct State {
     /// Whether a token was read.
     pub any: bool,
-    /// Whether a line end stands behind the latest token.
+    /// Whether a line end follows the latest token.
     pub line: bool,
     /// Whether `/` divides.
     pub divides: bool,
@@ -133,7 +133,7 @@ fn divides_behind(rule: SlashRule, line: bool, divides: bool, headed: bool) -> b
     }
 }
 
-/// Whether a parenthesis behind a token of this kind belongs to a statement's head.
+/// Whether a parenthesis after a token of this kind belongs to a statement's head.
 #[tactic(auto, unfolding(crate::specs::Goal::is_headed))]
 fn is_headed(kind: TokenKind, after_for: bool) -> bool
     ensures { result ≡ is_headed kind after_for }
@@ -169,7 +169,7 @@ fn is_for(kind: TokenKind) -> bool
     }
 }
 
-/// The state behind a token. `headed` is that of the bracket that it closes.
+/// The state after a token. `headed` is that of the bracket that it closes.
 #[inline(always)]
 #[tactic(auto, unfolding(crate::specs::Goal::token_state))]
 pub fn token_state(state: State, kind: TokenKind, headed: bool) -> State
@@ -186,7 +186,7 @@ pub fn token_state(state: State, kind: TokenKind, headed: bool) -> State
     }
 }
 
-/// The state behind a blank.
+/// The state after a blank.
 pub fn blank_state(state: State) -> State
     ensures { result ≡ blank_state state }
 {
@@ -196,7 +196,7 @@ pub fn blank_state(state: State) -> State
     }
 }
 
-/// The state behind a line end.
+/// The state after a line end.
 pub fn line_state(state: State) -> State
     ensures { result ≡ line_state state }
 {
@@ -207,7 +207,7 @@ pub fn line_state(state: State) -> State
     }
 }
 
-/// The state behind a comment, in which a line end stands or not.
+/// The state after a comment, which has a line end or not.
 pub fn comment_state(state: State, line_end: bool) -> State
     ensures { result ≡ comment_state state line_end }
 {
@@ -218,7 +218,7 @@ pub fn comment_state(state: State, line_end: bool) -> State
     }
 }
 
-/// What may stand there.
+/// What is allowed there.
 pub fn goal_in(state: State, bracket: Option<BracketKind>) -> Goal
     ensures { result ≡ goal_in state bracket }
 {

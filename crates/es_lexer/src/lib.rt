@@ -4,7 +4,7 @@
 //!   or the first fault (`Stops`, `specs/Stops.antt`). Both ways: besides it only "out of memory" may come.
 //! - `literal_value(literal)`: the value of a string literal; `quote(text)`: the literal of a text (both of `es_literal`).
 //!
-//! Places are bytes of the text, from 0. `docs/TOKENS.md` tells the rules in words.
+//! Places are bytes of the text, from 0. `docs/TOKENS.md` describes the rules in prose.
 //! Not promised: what `Display` and `Debug` write, and when memory runs out.
 #![tactic(auto)]
 

@@ -22,7 +22,7 @@ use es_literal::spelling::{NumberEnd, TemplateEnd, begins_line_end, regexp_from,
 use es_token::{CommentKind, TokenKind};
 use es_unicode::{wide_blank, wide_line, wide_size};
 
-/// What stands at a place of a text. An end is the place behind it.
+/// What is at an offset of a text. An end is the offset after it.
 #[derive(Clone, Copy)]
 pub enum Look {
     /// The text's end.
@@ -48,14 +48,14 @@ pub enum Look {
     },
 }
 
-/// A word, and the place behind it.
+/// A word, and the offset after it.
 #[derive(Clone, Copy)]
 pub struct Word {
     pub kind: TokenKind,
     pub end: usize,
 }
 
-/// What stands at `at`, at the front of `text`.
+/// What is at `at`, at the front of `text`.
 #[tactic(auto, unfolding(crate::specs::Look::look_at, crate::specs::Look::class_look))]
 pub fn look_from(goal: Goal, at: usize, text: &[u8]) -> Look
     requires { at + length text.now < 2 ^ 64 }
@@ -168,7 +168,7 @@ fn template_token(opens: bool, at: usize, end: TemplateEnd) -> Look
     }
 }
 
-/// What begins with a `}`: behind an open `${` its template goes on.
+/// What begins with a `}`: after an open `${` its template continues.
 #[tactic(auto, unfolding(crate::specs::Look::brace_look))]
 fn brace_from(goal: Goal, at: usize, whole: &[u8], rest: &[u8]) -> Look
     requires room { at + 1 + length rest.now < 2 ^ 64 }
@@ -206,7 +206,7 @@ fn hash_from(front: bool, at: usize, rest: &[u8]) -> Look
     }
 }
 
-/// A private name, whose name stands at the front of the text.
+/// A private name, whose name is at the front of the text.
 #[tactic(auto, unfolding(crate::specs::Look::name_look))]
 fn name_from(at: usize, text: &[u8]) -> Look
     requires { at + 1 + length text.now < 2 ^ 64 }
@@ -374,7 +374,7 @@ fn divide_from(goal: Goal, at: usize, whole: &[u8], rest: &[u8]) -> Look
     }
 }
 
-/// A regular expression, by the place behind its body. The text stands behind the `/` that begins it.
+/// A regular expression, by the offset after its body. The text follows the `/` that begins it.
 #[tactic(auto, unfolding(crate::specs::Look::regexp_look))]
 fn regexp_token(at: usize, body: Option<usize>, text: &[u8]) -> Look
     requires room { at + 1 + length text.now < 2 ^ 64 }
@@ -419,7 +419,7 @@ fn block_from(start: usize, first: usize, bytes: &[u8]) -> Look
     }
 }
 
-/// Whether `*/` stands here.
+/// Whether `*/` comes next.
 #[tactic(auto, unfolding(crate::specs::Bytes::begins_closer))]
 fn is_closer(b: u8, after: &[u8]) -> bool
     ensures value { result ≡ begins_closer (b ∷ after.now) }
@@ -431,7 +431,7 @@ fn is_closer(b: u8, after: &[u8]) -> bool
     }
 }
 
-/// The word at `at`, where a letter, `$` or `_` stands at the front of `text`.
+/// The word at `at`, where `text` begins with a letter, `$` or `_`.
 #[inline(always)]
 #[tactic(auto, unfolding(crate::specs::Look::look_at, crate::specs::Look::class_look, crate::specs::Look::word_look, crate::specs::Bytes::begins_letter, crate::specs::Bytes::is_letter))]
 pub fn short_word(goal: Goal, at: usize, text: &[u8]) -> Option<Word>
@@ -455,7 +455,7 @@ pub fn short_word(goal: Goal, at: usize, text: &[u8]) -> Option<Word>
     }
 }
 
-/// The place behind the word at `first`, where a letter, `$` or `_` stands at the front of `text`.
+/// The offset after the word at `first`, where `text` begins with a letter, `$` or `_`.
 #[inline(always)]
 fn behind_letter(first: usize, text: &[u8]) -> usize
     requires room { first + length text.now < 2 ^ 64 }
@@ -482,7 +482,7 @@ fn word_from(member: bool, at: usize, text: &[u8]) -> Look
     }
 }
 
-/// The place behind the parts of a name that stand at `first`.
+/// The offset after the parts of a name at `first`.
 fn word_end_from(first: usize, text: &[u8]) -> usize
     requires { first + length text.now < 2 ^ 64 }
     ensures value { result ≡ word_end first text.now }
@@ -501,7 +501,7 @@ fn word_end_from(first: usize, text: &[u8]) -> usize
     at
 }
 
-/// The same, where no letter, digit, `$` or `_` is likely to stand at the front of the text.
+/// The same, where the text is unlikely to begin with a letter, digit, `$` or `_`.
 #[inline(always)]
 fn behind_plain(first: usize, text: &[u8]) -> usize
     requires { first + length text.now < 2 ^ 64 }
@@ -538,7 +538,7 @@ fn parts_end_from(first: usize, text: &[u8]) -> usize
     at
 }
 
-/// The place behind the flags that stand at `first`.
+/// The offset after the flags at `first`.
 #[tactic(auto, unfolding(crate::specs::Look::flags_end))]
 fn flags_end_from(first: usize, text: &[u8]) -> usize
     requires { first + length text.now < 2 ^ 64 }
@@ -575,7 +575,7 @@ fn line_end_from(first: usize, bytes: &[u8]) -> usize
     at
 }
 
-/// The place behind the blanks of one byte that stand at `from`.
+/// The offset after the blanks of one byte at `from`.
 pub fn behind_blanks(bytes: &[u8], from: usize) -> usize
     requires { from ≤ length bytes.now }
     ensures { result ≡ blanks_end from (drop from bytes.now) }

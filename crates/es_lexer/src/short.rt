@@ -7,7 +7,7 @@ use crate::bracket::BracketKind;
 use crate::goal::{Goal, State, token_state};
 use es_token::TokenKind;
 
-/// A punctuator behind which an expression may begin, and which is no bracket.
+/// A punctuator after which an expression may begin, and which is no bracket.
 #[derive(Clone, Copy)]
 pub enum Stop {
     Semicolon,
@@ -15,7 +15,7 @@ pub enum Stop {
     Colon,
 }
 
-/// A punctuator of one byte that is told by that byte and the next one.
+/// A punctuator of one byte that is given by that byte and the next one.
 #[derive(Clone, Copy)]
 pub enum Short {
     Stops(Stop),
@@ -109,7 +109,7 @@ pub fn closer_kind(bracket: BracketKind) -> TokenKind
     }
 }
 
-/// The state behind such a punctuator: the same for all three.
+/// The state after such a punctuator: the same for all three.
 #[tactic(auto, unfolding(crate::specs::Short::stop_kind))]
 pub fn stop_state(state: State, stop: Stop, headed: bool) -> State
     ensures { result ≡ token_state state (stop_kind stop) headed }
@@ -121,7 +121,7 @@ pub fn stop_state(state: State, stop: Stop, headed: bool) -> State
     }
 }
 
-/// The state behind a bracket that opens.
+/// The state after a bracket that opens.
 #[tactic(auto, unfolding(crate::specs::Short::opener_kind))]
 pub fn opener_state(state: State, bracket: BracketKind, headed: bool) -> State
     ensures { result ≡ token_state state (opener_kind bracket) headed }
@@ -134,7 +134,7 @@ pub fn opener_state(state: State, bracket: BracketKind, headed: bool) -> State
     }
 }
 
-/// The state behind a bracket that closes.
+/// The state after a bracket that closes.
 #[tactic(auto, unfolding(crate::specs::Short::closer_kind))]
 pub fn closer_state(state: State, bracket: BracketKind, headed: bool) -> State
     ensures { result ≡ token_state state (closer_kind bracket) headed }

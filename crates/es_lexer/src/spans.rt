@@ -7,7 +7,7 @@ use crate::bytes::is_part;
 use es_literal::spelling::{NumberEnd, number_from};
 use es_literal::{StringEnd, string_from};
 
-/// The end of the string literal at the front of a text that stands at `start`, by a short way where no `\` stands in it.
+/// The end of the string literal at the front of a text that starts at `start`, by a fast path where it has no `\`.
 #[tactic(auto, unfolding(es_literal::specs::Strings::string_end))]
 pub fn string_end_from(start: usize, text: &[u8]) -> StringEnd
     requires { start + length text.now < 2 ^ 64 }
@@ -19,7 +19,7 @@ pub fn string_end_from(start: usize, text: &[u8]) -> StringEnd
     }
 }
 
-/// The same for a literal with this quote and what stands behind it.
+/// The same for a literal with this quote and what follows the quote.
 #[tactic(auto, unfolding(es_literal::specs::Strings::body_end, es_literal::specs::Strings::string_unit, es_literal::specs::Strings::string_stop, es_literal::specs::Strings::is_plain, es_literal::specs::spelling::Units::units_end, es_literal::specs::spelling::Units::units_rest))]
 fn body_from(quote: u8, start: usize, whole: &[u8], body: &[u8]) -> StringEnd
     requires room { start + length whole.now < 2 ^ 64 }
@@ -45,7 +45,7 @@ fn body_from(quote: u8, start: usize, whole: &[u8], body: &[u8]) -> StringEnd
     StringEnd::Unclosed
 }
 
-/// The number at the front of a text that stands at `start`, by a short way for decimal digits alone.
+/// The number at the front of a text that starts at `start`, by a fast path for decimal digits alone.
 pub fn number_end_from(start: usize, text: &[u8]) -> NumberEnd
     requires { start + length text.now < 2 ^ 64 }
     ensures value { result ≡ number_end start text.now }
@@ -66,7 +66,7 @@ pub fn number_end_from(start: usize, text: &[u8]) -> NumberEnd
     }
 }
 
-/// The place behind decimal digits, where nothing stands there with which a number may go on.
+/// The offset after decimal digits, where nothing follows with which a number may continue.
 #[tactic(auto, unfolding(crate::specs::Spans::plain_stop))]
 fn stop_from(first: usize, text: &[u8]) -> Option<usize>
     requires { first + length text.now < 2 ^ 64 }

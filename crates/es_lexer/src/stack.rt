@@ -25,7 +25,7 @@ pub fn innermost(brackets: &Items<OpenBracket>) -> Option<BracketKind>
     }
 }
 
-/// Puts a word at the end, and answers the state behind it.
+/// Appends a word, and returns the state after it.
 #[inline(always)]
 pub fn push_word(
     tokens: &mut Items<Token>,
@@ -44,7 +44,7 @@ pub fn push_word(
     }
 }
 
-/// Puts a token of this kind at the end, and answers the state behind it.
+/// Appends a token of this kind, and returns the state after it.
 #[inline(always)]
 fn push_known(
     tokens: &mut Items<Token>,
@@ -61,7 +61,7 @@ fn push_known(
     Ok(token_state(state, kind, headed))
 }
 
-/// Puts a punctuator at the end, and answers the state behind it.
+/// Appends a punctuator, and returns the state after it.
 #[inline(always)]
 #[tactic(auto, unfolding(crate::specs::Short::short_kind, crate::specs::Short::short_role))]
 pub fn push_short(
@@ -259,7 +259,7 @@ fn take_closed(brackets: &mut Items<OpenBracket>, role: Role) -> Option<OpenBrac
     }
 }
 
-/// Puts the bracket that a token of this role opens behind the others.
+/// Pushes the bracket that a token of this role opens onto the others.
 #[tactic(auto, unfolding(crate::specs::Scan::pushed))]
 fn push_open(
     brackets: &mut Items<OpenBracket>,

@@ -1,4 +1,4 @@
-//! What a string literal stands for, at once where no escape stands in it (ECMA-262, "String Literals").
+//! What a string literal stands for, at once where it has no escape (ECMA-262, "String Literals").
 //!
 //! - `literal_text(alloc, literal)`: the text that the literal stands for (`value_of` of `es_literal`).
 //!

@@ -2,7 +2,7 @@
 //! Lexical Components", "Regular Expression Literals").
 //!
 //! Each call is given the bytes of the text from a place on, and that place. What it answers is a function of the text
-//! (`specs/`); `proofs/` shows that it is the end of the spelling that stands there, and of no other.
+//! (`specs/`); `proofs/` shows that it is the end of the spelling at that place, and of no other.
 
 mod line;
 mod number;

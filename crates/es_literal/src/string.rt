@@ -12,7 +12,7 @@ pub enum StringEnd {
     Unclosed,
 }
 
-/// The end of the string literal at the front of a text that stands at `start`. The text begins with the quote.
+/// The end of the string literal at the front of a text that starts at `start`. The text begins with the quote.
 pub fn string_from(start: usize, text: &[u8]) -> StringEnd
     requires { start + length text.now < 2 ^ 64 }
     ensures value { result ≡ string_end start text.now }
@@ -89,7 +89,7 @@ fn is_plain(quote: u8, b: u8) -> bool
     !(b == quote || b == b'\\' || b == b'\n' || b == b'\r')
 }
 
-/// The size of an escape, whose `\` stands before the text.
+/// The size of an escape, whose `\` precedes the text.
 #[tactic(auto, unfolding(crate::specs::Strings::escape_size))]
 fn escape_size(text: &[u8]) -> usize
     ensures value { result ≡ escape_size text.now }
@@ -169,7 +169,7 @@ fn braced_size(text: &[u8]) -> usize
     }
 }
 
-/// The size of `\u{H..}`, behind its first digit.
+/// The size of `\u{H..}`, whose first digit precedes the text.
 #[tactic(auto, unfolding(crate::specs::Strings::point_size))]
 fn point_size(first: u32, text: &[u8]) -> usize
     requires { first < 16 }

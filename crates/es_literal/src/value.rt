@@ -11,12 +11,12 @@ use std::alloc::{AllocError, Global};
 #[derive(Debug, Drop, PartialEq, Eq)]
 pub struct LiteralValue {
     pub text: Text,
-    /// Whether a surrogate without its partner stood in it, for which `text` has U+FFFD.
+    /// Whether the literal has a surrogate without its partner, for which `text` has U+FFFD.
     pub lone: bool,
 }
 
 /// The value of a string literal, quotes included (ECMA-262, "String Literals", Static Semantics: SV). Of any other text
-/// it is that of what stands between the first and the last character, by the same rules.
+/// it is that of what is between the first and the last character, by the same rules.
 #[tactic(auto, unfolding(crate::specs::Values::value_of, crate::specs::Values::is_lone))]
 pub fn literal_value(alloc: Global, literal: &str) -> Result<LiteralValue, AllocError>
     ensures text { IfOk result (λ value. value.text ≡ value_of literal.now) }
@@ -106,7 +106,7 @@ fn push_code(units: &mut Vec<u16>, code: Option<u32>) -> Result<(), AllocError>
     }
 }
 
-/// What stands at the front, and how many characters behind the first belong to it.
+/// What is at the front, and how many characters after the first belong to it.
 #[tactic(auto, unfolding(crate::specs::Values::unit_of))]
 fn unit_of(c: char, after: &[char]) -> (Option<u32>, usize)
     ensures code { result.0 ≡ (unit_of c after.now).0 }
@@ -182,7 +182,7 @@ fn unicode_number(text: &[char]) -> (u32, usize)
     }
 }
 
-/// The number of `\u{H..}`, whose `{` stands before the text.
+/// The number of `\u{H..}`, whose `{` precedes the text.
 #[tactic(auto, unfolding(crate::specs::Values::braced_number))]
 fn braced_number(text: &[char]) -> (u32, usize)
     ensures code { result.0 ≡ (braced_number 2 0 text.now).0 }
@@ -289,7 +289,7 @@ fn is_line_end(c: char) -> bool
     c == '\n' || c == '\u{2028}' || c == '\u{2029}'
 }
 
-/// What a character behind `\` stands for that begins no longer escape.
+/// What a character after `\` stands for that begins no longer escape.
 #[tactic(auto, unfolding(crate::specs::Values::single_code))]
 fn single_code(c: char) -> u32
     ensures value { result ≡ single_code c }

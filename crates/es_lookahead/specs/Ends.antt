@@ -1,5 +1,5 @@
--- Where type arguments and type parameters end: what is known of each `<`, when it is right, and how it is found.
-use Rattle.std.specs.Prelude.{◌≡◌, ℕ, zero, suc, ◌/◌, ltb, leb, eqb, Bool, true, false, List, [], ◌∷◌, length, take, drop, slice_get, Option, Some, None, if◌then◌else◌}
+-- Where type arguments and type parameters end: what is known of places, when it is right, and how it is found.
+use Rattle.std.specs.Prelude.{◌≡◌, ℕ, zero, suc, ◌≤◌, ◌/◌, ltb, leb, Bool, true, false, List, [], ◌∷◌, length, take, drop, slice_get, Option, Some, None, if◌then◌else◌}
 use Rattle.grammar_theory.specs.Key.{Key}
 use Rattle.grammar_theory.specs.Plain.{Plain, plain, none_leans, tall}
 use Rattle.grammar_theory.specs.Fits.{most_nodes}
@@ -21,10 +21,11 @@ end_of (gives p to) =
 unfoldable pub row_end : TypeRow → List Key → ℕ → Option End
 row_end r K at = end_of (read_row plain K type_rule most_nodes r at)
 
--- what is known of a place is so
+-- what is known of places is so of each of them
 abbrev pub IsRight : List Key → Angle → Type 0
 IsRight K angle =
-    (row_end ArgumentsRow K angle.at ≡ angle.arguments) × (row_end TypeParametersRow K angle.at ≡ angle.parameters)
+    (q : ℕ) → angle.first ≤ q → q ≤ angle.at
+    → (row_end ArgumentsRow K q ≡ angle.arguments) × (row_end TypeParametersRow K q ≡ angle.parameters)
 
 abbrev pub AreRight : List Key → List Angle → Type 0
 AreRight K angles = (i : ℕ) (angle : Angle) → slice_get angles i ≡ Some angle → IsRight K angle
@@ -33,7 +34,7 @@ AreRight K angles = (i : ℕ) (angle : Angle) → slice_get angles i ≡ Some an
 abbrev pub at_half : ℕ → Option Angle → Option Angle → Option Angle → Option Angle
 at_half at None behind front = None
 at_half at (Some angle) behind front =
-    if eqb angle.at at then Some angle else (if ltb at angle.at then behind else front)
+    if ltb at angle.first then behind else (if ltb angle.at at then front else Some angle)
 
 -- what is known of a place, by halves
 unfoldable pub angle_at : ℕ → List Angle → ℕ → Option Angle

@@ -35,7 +35,7 @@ impl Tokens<'_> {
         looks::is_near(next) && (looks::starts_key(true, next) || is(TokenKind::Star, next))
     }
 
-    /// The predicate at this place, or behind the modifier `static`.
+    /// The predicate at this place, or after the modifier `static`.
     #[tactic(auto, unfolding(es_grammar::specs::types::Classes::behind_static))]
     pub fn behind_static_accessor(&self, at: usize) -> bool
         ensures { result ≡ behind_static (opens_accessor true) (keys_of self.now.tokens.now) at }
@@ -47,7 +47,7 @@ impl Tokens<'_> {
         }
     }
 
-    /// The predicate at this place, or behind the modifier `static`.
+    /// The predicate at this place, or after the modifier `static`.
     #[tactic(auto, unfolding(es_grammar::specs::types::Classes::behind_static))]
     pub fn behind_static_async(&self, at: usize) -> bool
         ensures { result ≡ behind_static (opens_async true) (keys_of self.now.tokens.now) at }
@@ -59,7 +59,7 @@ impl Tokens<'_> {
         }
     }
 
-    /// The predicate at this place, or behind the modifier `static`.
+    /// The predicate at this place, or after the modifier `static`.
     #[tactic(auto, unfolding(es_grammar::specs::types::Classes::behind_static))]
     pub fn behind_static_star(&self, at: usize) -> bool
         ensures { result ≡ behind_static opens_star (keys_of self.now.tokens.now) at }
@@ -71,7 +71,7 @@ impl Tokens<'_> {
         }
     }
 
-    /// The predicate at this place, or behind the modifier `static`.
+    /// The predicate at this place, or after the modifier `static`.
     #[tactic(auto, unfolding(es_grammar::specs::types::Classes::behind_static))]
     pub fn behind_static_field_accessor(&self, at: usize) -> bool
         ensures { result ≡ behind_static opens_field_accessor (keys_of self.now.tokens.now) at }
@@ -83,7 +83,7 @@ impl Tokens<'_> {
         }
     }
 
-    /// The predicate at this place, or behind the modifier `static`.
+    /// The predicate at this place, or after the modifier `static`.
     #[tactic(auto, unfolding(es_grammar::specs::types::Classes::behind_static))]
     pub fn behind_static_method(&self, at: usize) -> bool
         ensures { result ≡ behind_static opens_method (keys_of self.now.tokens.now) at }
@@ -95,7 +95,7 @@ impl Tokens<'_> {
         }
     }
 
-    /// Behind the modifiers stands a key that is none.
+    /// The key after the modifiers isn't a modifier.
     #[tactic(auto, unfolding(es_grammar::specs::types::Classes::is_plain_member))]
     pub fn is_plain_member(&self, at: usize) -> bool
         ensures { result ≡ is_plain_member (keys_of self.now.tokens.now) at }

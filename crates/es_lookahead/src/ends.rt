@@ -5,16 +5,18 @@ ghost use Rattle.es_lookahead.specs.Ends.{angle_at, end_in};
 
 use es_grammar::types::TypeRow;
 
-/// The token behind a part, and the most nodes on a path of it.
+/// The token after a part, and the most nodes on a path of it.
 #[derive(Clone, Copy)]
 pub struct End {
     pub to: usize,
     pub height: usize,
 }
 
-/// What is known of a `<` or `<<`: where type arguments and type parameters end that begin there.
+/// What is known of the tokens from `first` to `at`, both included: where type arguments and type parameters end that begin at
+/// each of them. A `<` or `<<` that opens something is alone; tokens in a row where nothing begins share one of these.
 #[derive(Clone, Copy)]
 pub struct Angle {
+    pub first: usize,
     pub at: usize,
     pub arguments: Option<End>,
     pub parameters: Option<End>,
@@ -24,27 +26,31 @@ pub struct Angle {
 const HALVES: usize = 64;
 
 /// What is known of a place, by halves.
-#[tactic(auto, unfolding(crate::specs::Ends::angle_at))]
-fn angle_at(steps: usize, angles: &[Angle], at: usize) -> Option<Angle>
-    ensures { result ≡ angle_at steps angles.now at }
+fn angle_at(angles: &[Angle], at: usize) -> Option<Angle>
+    ensures { result ≡ angle_at 64 angles.now at }
 {
-    if steps == 0 {
-        return None;
-    }
-    let half = angles.len() / 2;
-    match angles.get(half) {
-        None => None,
-        Some(angle) => {
-            if angle.at == at {
+    let mut within = angles;
+    let mut steps = HALVES;
+    'halves: while steps > 0 {
+        steps -= 1;
+        let half = within.len() / 2;
+        match within.get(half) {
+            None => return None,
+            Some(angle) => {
+                let (front, behind) = within.split_at(half);
+                if at < angle.first {
+                    within = behind;
+                    continue 'halves;
+                }
+                if angle.at < at {
+                    within = front;
+                    continue 'halves;
+                }
                 return Some(*angle);
             }
-            let (front, behind) = angles.split_at(half);
-            if at < angle.at {
-                return angle_at(steps - 1, behind, at);
-            }
-            angle_at(steps - 1, front, at)
         }
     }
+    None
 }
 
 /// What is known of a row at a place: none where nothing is, else its end, or none where it has none.
@@ -52,11 +58,11 @@ pub fn end_in(angles: &[Angle], row: TypeRow, at: usize) -> Option<Option<End>>
     ensures { result ≡ end_in angles.now row at }
 {
     match row {
-        TypeRow::ArgumentsRow => match angle_at(HALVES, angles, at) {
+        TypeRow::ArgumentsRow => match angle_at(angles, at) {
             Some(angle) => Some(angle.arguments),
             None => None,
         },
-        TypeRow::TypeParametersRow => match angle_at(HALVES, angles, at) {
+        TypeRow::TypeParametersRow => match angle_at(angles, at) {
             Some(angle) => Some(angle.parameters),
             None => None,
         },

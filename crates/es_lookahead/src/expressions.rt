@@ -71,7 +71,7 @@ impl Tokens<'_> {
         !self.is_arrow(at)
     }
 
-    /// A name before `=>` on its line, or `(` whose `)` stands there.
+    /// A name before `=>` on its line, or `(` whose `)` precedes one.
     #[tactic(auto, unfolding(es_grammar::specs::types::Expressions::opens_plain_arrow))]
     pub fn opens_plain_arrow(&self, at: usize) -> bool
         ensures { result ≡ opens_plain_arrow (keys_of self.now.tokens.now) at }
@@ -99,7 +99,7 @@ impl Tokens<'_> {
         self.opens_plain_arrow(at) || self.opens_async_arrow(at)
     }
 
-    /// `(` stands behind `async`.
+    /// `(` follows `async`.
     #[tactic(auto, unfolding(es_grammar::specs::types::Expressions::opens_async_parenthesis))]
     pub fn opens_async_parenthesis(&self, at: usize) -> bool
         ensures { result ≡ opens_async_parenthesis (keys_of self.now.tokens.now) at }
@@ -127,7 +127,7 @@ impl Tokens<'_> {
         looks::is_near(next) && is(TokenKind::FunctionWord, next)
     }
 
-    /// A `.` stands behind the word at this place.
+    /// A `.` follows the word at this place.
     #[tactic(auto, unfolding(es_grammar::specs::types::Expressions::opens_property))]
     pub fn opens_property(&self, at: usize) -> bool
         ensures { result ≡ opens_property (keys_of self.now.tokens.now) at }
@@ -135,7 +135,7 @@ impl Tokens<'_> {
         is(TokenKind::Dot, self.seen_after(at, 1))
     }
 
-    /// `source` stands behind `import` and `.`.
+    /// `source` follows `import` and `.`.
     #[tactic(auto, unfolding(es_grammar::specs::types::Expressions::opens_source_call))]
     pub fn opens_source_call(&self, at: usize) -> bool
         ensures { result ≡ opens_source_call (keys_of self.now.tokens.now) at }
@@ -144,7 +144,7 @@ impl Tokens<'_> {
             && is(TokenKind::SourceWord, self.seen_after(at, 2))
     }
 
-    /// `defer` stands behind `import` and `.`.
+    /// `defer` follows `import` and `.`.
     #[tactic(auto, unfolding(es_grammar::specs::types::Expressions::opens_defer_call))]
     pub fn opens_defer_call(&self, at: usize) -> bool
         ensures { result ≡ opens_defer_call (keys_of self.now.tokens.now) at }
@@ -236,7 +236,7 @@ impl Tokens<'_> {
         !self.sees(TokenKind::AmpersandAmpersand, at) && !self.sees(TokenKind::BarBar, at)
     }
 
-    /// An operand of `yield` stands here.
+    /// An operand of `yield` begins here.
     #[tactic(auto, unfolding(es_grammar::specs::types::Expressions::is_operand))]
     pub fn is_operand(&self, at: usize) -> bool
         ensures { result ≡ is_operand (seen (keys_of self.now.tokens.now) at) }

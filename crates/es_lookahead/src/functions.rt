@@ -18,7 +18,7 @@ impl Tokens<'_> {
             && self.closes_before_next(at)
     }
 
-    /// A parameter stands here: neither `)` nor `...`.
+    /// A parameter begins here: neither `)` nor `...`.
     #[tactic(auto, unfolding(es_grammar::specs::types::Functions::is_parameter))]
     pub fn is_parameter(&self, at: usize) -> bool
         ensures { result ≡ is_parameter (seen (keys_of self.now.tokens.now) at) }
@@ -54,7 +54,7 @@ impl Tokens<'_> {
         looks::is_near(next) && (looks::starts_key(private, next) || is(TokenKind::Star, next))
     }
 
-    /// Behind a modifier stands a key that is none.
+    /// The key after a modifier isn't a modifier.
     #[tactic(auto, unfolding(es_grammar::specs::types::Functions::is_plain_key))]
     pub fn is_plain_key(&self, at: usize) -> bool
         ensures { result ≡ is_plain_key (keys_of self.now.tokens.now) at }

@@ -16,7 +16,7 @@ use es_token::TokenKind;
 #[derive(Clone, Copy)]
 pub struct Seen {
     pub kind: TokenKind,
-    /// Whether a line end stands before the token.
+    /// Whether a line end precedes the token.
     pub line_before: bool,
 }
 
@@ -53,7 +53,7 @@ pub fn is_token(next: Option<Seen>) -> bool
     }
 }
 
-/// A line end stands before the next token.
+/// A line end precedes the next token.
 #[tactic(auto, unfolding(crate::specs::Sight::sight))]
 pub fn is_after_line(next: Option<Seen>) -> bool
     ensures { result ≡ is_after_line (sight next) }

@@ -20,7 +20,7 @@ pub fn is_typescript(lang: Lang) -> bool
     }
 }
 
-/// The place behind the modifier `type`.
+/// The place after the modifier `type`.
 fn behind_type(modified: bool, at: usize) -> usize
     requires { at + 1 < 2 ^ 64 }
     ensures { result ≡ behind_type modified at }
@@ -29,7 +29,7 @@ fn behind_type(modified: bool, at: usize) -> usize
 }
 
 impl Tokens<'_> {
-    /// Whether END may stand here.
+    /// Whether END is allowed here.
     pub fn may_end(&self, at: usize) -> bool
         ensures { result ≡ may_end (seen (keys_of self.now.tokens.now) at) }
     {
@@ -63,7 +63,7 @@ impl Tokens<'_> {
         is(TokenKind::Str, next) || (looks::has_word(next) && !is(TokenKind::AsWord, next))
     }
 
-    /// A name or Str before `as`, behind the modifier `type` too.
+    /// A name or Str before `as`, also after the modifier `type`.
     #[tactic(auto, unfolding(es_grammar::specs::types::Modules::is_renamed))]
     pub fn is_renamed(&self, lang: Lang, at: usize) -> bool
         ensures { result ≡ is_renamed lang (keys_of self.now.tokens.now) at }
@@ -93,7 +93,7 @@ impl Tokens<'_> {
         is(TokenKind::Comma, self.seen_after(at, 1))
     }
 
-    /// A name before `=`, behind the modifier `type` too.
+    /// A name before `=`, also after the modifier `type`.
     pub fn names_before_equal(&self, lang: Lang, at: usize) -> bool
         ensures { result ≡ names_before_equal lang (keys_of self.now.tokens.now) at }
     {
@@ -123,7 +123,7 @@ impl Tokens<'_> {
         self.sees(TokenKind::RequireWord, at) && is(TokenKind::OpenParen, self.seen_after(at, 1))
     }
 
-    /// `require` before `(` stands behind the `=` of the import here.
+    /// `require` before `(` follows the `=` of the import here.
     #[tactic(auto, unfolding(es_grammar::specs::types::Modules::opens_require))]
     pub fn opens_require(&self, lang: Lang, at: usize) -> bool
         ensures { result ≡ opens_require lang (keys_of self.now.tokens.now) at }
@@ -177,7 +177,7 @@ impl Tokens<'_> {
         is(TokenKind::OpenBrace, next) || is(TokenKind::Star, next)
     }
 
-    /// `export` before `*`, behind the modifier too.
+    /// `*` after `export`, or after its modifier.
     #[tactic(auto, unfolding(es_grammar::specs::types::Modules::opens_all))]
     pub fn opens_all(&self, lang: Lang, at: usize) -> bool
         ensures { result ≡ opens_all lang (keys_of self.now.tokens.now) at }
@@ -200,7 +200,7 @@ impl Tokens<'_> {
         self.opens_equals(lang, at + 1)
     }
 
-    /// `require` before `(` stands behind the `=` of the exported import here.
+    /// `require` before `(` follows the `=` of the exported import here.
     #[tactic(auto, unfolding(es_grammar::specs::types::Modules::opens_exported_require))]
     pub fn opens_exported_require(&self, lang: Lang, at: usize) -> bool
         ensures { result ≡ opens_exported_require lang (keys_of self.now.tokens.now) at }
@@ -231,7 +231,7 @@ impl Tokens<'_> {
         !(is(TokenKind::OpenParen, next) || is(TokenKind::Dot, next))
     }
 
-    /// `default` stands behind `export`.
+    /// `default` follows `export`.
     #[tactic(auto, unfolding(es_grammar::specs::types::Items::opens_default))]
     pub fn opens_default(&self, at: usize) -> bool
         ensures { result ≡ opens_default (keys_of self.now.tokens.now) at }
@@ -239,7 +239,7 @@ impl Tokens<'_> {
         is(TokenKind::DefaultWord, self.seen_after(at, 1))
     }
 
-    /// A function stands behind `export default`.
+    /// A function follows `export default`.
     #[tactic(auto, unfolding(es_grammar::specs::types::Items::opens_default_function))]
     pub fn opens_default_function(&self, at: usize) -> bool
         ensures { result ≡ opens_default_function (keys_of self.now.tokens.now) at }
@@ -253,7 +253,7 @@ impl Tokens<'_> {
         self.opens_async_function(at + 2)
     }
 
-    /// A class stands behind `export default`.
+    /// A class follows `export default`.
     #[tactic(auto, unfolding(es_grammar::specs::types::Items::opens_default_class))]
     pub fn opens_default_class(&self, at: usize) -> bool
         ensures { result ≡ opens_default_class (keys_of self.now.tokens.now) at }
@@ -261,7 +261,7 @@ impl Tokens<'_> {
         is(TokenKind::ClassWord, self.seen_after(at, 2))
     }
 
-    /// A declaration stands behind `export`.
+    /// A declaration follows `export`.
     #[tactic(auto, unfolding(es_grammar::specs::types::Items::opens_declaration))]
     pub fn opens_declaration(&self, at: usize) -> bool
         ensures { result ≡ opens_declaration (keys_of self.now.tokens.now) at }

@@ -45,7 +45,7 @@ impl Tokens<'_> {
             && looks::has_name(name)
     }
 
-    /// `using` before a name on its line, but `of` where no `await` stands before it.
+    /// `using` before a name on its line, but not `of` unless `await` precedes it.
     #[tactic(auto, unfolding(es_grammar::specs::types::Statements::opens_using))]
     pub fn opens_using(&self, at: usize) -> bool
         ensures { result ≡ opens_using (keys_of self.now.tokens.now) at }
@@ -53,7 +53,7 @@ impl Tokens<'_> {
         self.opens_plain_using(at) || self.opens_await_using(at)
     }
 
-    /// The place behind the token at this place, or behind the bracket that it opens, as far as `to`.
+    /// The place after this token, or after its closer where it opens a bracket; at most `to`.
     fn step_over(&self, at: usize, to: usize) -> usize
         requires { at < to }
         ensures { (turns : ℕ) → has_semicolon (keys_of self.now.tokens.now) turns result to
@@ -74,7 +74,7 @@ impl Tokens<'_> {
         }
     }
 
-    /// A `;` stands directly between these places.
+    /// A `;` is directly between these places.
     fn has_semicolon(&self, from: usize, to: usize) -> bool
         ensures { result ≡ has_semicolon (keys_of self.now.tokens.now) (length (keys_of self.now.tokens.now)) from to }
     {
@@ -106,7 +106,7 @@ impl Tokens<'_> {
         }
     }
 
-    /// `await` stands behind `for`.
+    /// `await` follows `for`.
     #[tactic(auto, unfolding(es_grammar::specs::types::Statements::opens_for_await))]
     pub fn opens_for_await(&self, at: usize) -> bool
         ensures { result ≡ opens_for_await (keys_of self.now.tokens.now) at }

@@ -49,7 +49,7 @@ impl Tokens<'_> {
         }
     }
 
-    /// What is seen so many places behind this one.
+    /// What is seen so many places after this one.
     pub fn seen_after(&self, at: usize, steps: usize) -> Option<Seen>
         ensures { sight result ≡ seen (keys_of self.now.tokens.now) (at + steps) }
     {
@@ -90,7 +90,7 @@ impl Tokens<'_> {
         }
     }
 
-    /// What is seen behind the key at this place.
+    /// What is seen after the key at this place.
     pub fn seen_behind_key(&self, at: usize) -> Option<Seen>
         ensures { sight result ≡ seen (keys_of self.now.tokens.now)
             (behind_key at (partner_of (slice_get (keys_of self.now.tokens.now) at))) }

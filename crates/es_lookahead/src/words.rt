@@ -1,4 +1,4 @@
-//! Tests of the token at a place, and of what stands behind a bracket.
+//! Tests of the token at a place, and of what follows a bracket.
 
 ghost use Rattle.std.specs.Prelude.{◌≡◌};
 ghost use Rattle.es_token.specs.declared.token.TokenKind.TheVariants as k;
@@ -69,7 +69,7 @@ impl Tokens<'_> {
         looks::is_token(self.seen(at))
     }
 
-    /// Whether a line end stands before the token at this place.
+    /// Whether a line end precedes the token at this place.
     pub fn is_after_line(&self, at: usize) -> bool
         ensures { result ≡ is_after_line (seen (keys_of self.now.tokens.now) at) }
     {
@@ -90,7 +90,7 @@ impl Tokens<'_> {
         !self.sees(kind, at)
     }
 
-    /// Whether the bracket that matches the one at this place stands before `=>` on its line.
+    /// Whether the bracket that matches the one at this place precedes `=>` on its line.
     pub fn closes_before_arrow(&self, at: usize) -> bool
         ensures { result ≡ closes_before is_arrow (keys_of self.now.tokens.now) at }
     {
@@ -100,7 +100,7 @@ impl Tokens<'_> {
         }
     }
 
-    /// Whether the bracket that matches the one at this place stands before `of` or `in`.
+    /// Whether the bracket that matches the one at this place precedes `of` or `in`.
     pub fn closes_before_each(&self, at: usize) -> bool
         ensures { result ≡ closes_before is_each (keys_of self.now.tokens.now) at }
     {
@@ -110,7 +110,7 @@ impl Tokens<'_> {
         }
     }
 
-    /// Whether the bracket that matches the one at this place stands before what may follow a pattern inside a pattern.
+    /// Whether the bracket that matches the one at this place precedes what may follow a pattern inside a pattern.
     pub fn closes_before_next(&self, at: usize) -> bool
         ensures { result ≡ closes_before follows_pattern (keys_of self.now.tokens.now) at }
     {
@@ -120,7 +120,7 @@ impl Tokens<'_> {
         }
     }
 
-    /// Whether the bracket that matches the one at this place stands before `=`.
+    /// Whether the bracket that matches the one at this place precedes `=`.
     pub fn closes_before_equal(&self, at: usize) -> bool
         ensures { result ≡ closes_before (is k.Equal) (keys_of self.now.tokens.now) at }
     {

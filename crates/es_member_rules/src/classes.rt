@@ -18,7 +18,7 @@ use es_shared_rules::{AnnotationIn, BodyIn, Ended, StarIn};
 use es_token::TokenKind;
 use grammar_theory::{Lang, SyntaxError};
 
-/// 'static'?, which stands once, and what stands behind it
+/// 'static'?, which occurs once, and what follows
 #[derive(Clone, Copy)]
 pub struct StaticIn<N>(pub N);
 
@@ -40,7 +40,7 @@ impl<N: ReadsRhs<Row> + Copy> ReadsRhs<Row> for StaticIn<N> {
     }
 }
 
-/// Mod*, each at most once, and what stands behind them.
+/// Mod*, each at most once, and what follows.
 #[derive(Clone, Copy)]
 pub struct ModifiersIn<N>(pub N);
 
@@ -65,7 +65,7 @@ impl<N: ReadsRhs<Row> + Copy> ReadsRhs<Row> for ModifiersIn<N> {
     }
 }
 
-/// Mod*, and what stands behind them; in JavaScript the one modifier is `static`.
+/// Mod*, and what follows; in JavaScript the only modifier is `static`.
 #[derive(Clone, Copy)]
 pub struct MemberHead<N>(pub Lang, pub N);
 
@@ -87,7 +87,7 @@ impl<N: ReadsRhs<Row> + Copy> ReadsRhs<Row> for MemberHead<N> {
     }
 }
 
-/// Mod* ('get' | 'set'), and what stands behind it; in JavaScript the one modifier is `static`.
+/// Mod* ('get' | 'set'), and what follows; in JavaScript the only modifier is `static`.
 #[derive(Clone, Copy)]
 pub struct AccessorHead<N>(pub Lang, pub N);
 
@@ -117,7 +117,7 @@ impl<N: ReadsRhs<Row> + Copy> ReadsRhs<Row> for AccessorHead<N> {
     }
 }
 
-/// Mod* 'async' '*'?, and what stands behind it; in JavaScript the one modifier is `static`.
+/// Mod* 'async' '*'?, and what follows; in JavaScript the only modifier is `static`.
 #[derive(Clone, Copy)]
 pub struct AsyncHead<N>(pub Lang, pub N);
 
@@ -145,7 +145,7 @@ impl<N: ReadsRhs<Row> + Copy> ReadsRhs<Row> for AsyncHead<N> {
     }
 }
 
-/// Mod* '*', and what stands behind it; in JavaScript the one modifier is `static`.
+/// Mod* '*', and what follows; in JavaScript the only modifier is `static`.
 #[derive(Clone, Copy)]
 pub struct StarHead<N>(pub Lang, pub N);
 
@@ -171,7 +171,7 @@ impl<N: ReadsRhs<Row> + Copy> ReadsRhs<Row> for StarHead<N> {
     }
 }
 
-/// Mod* 'accessor', and what stands behind it; in JavaScript the one modifier is `static`.
+/// Mod* 'accessor', and what follows; in JavaScript the only modifier is `static`.
 #[derive(Clone, Copy)]
 pub struct FieldHead<N>(pub Lang, pub N);
 
@@ -311,7 +311,7 @@ impl ReadsProduction<Row> for IndexMember {
     }
 }
 
-/// Member, with its modifiers: a method or a field, by the predicates that tell which behind the modifiers.
+/// Member, with its modifiers: a method or a field, by predicates of what follows the modifiers.
 #[derive(Clone, Copy)]
 struct MemberBehind {
     lang: Lang,
@@ -396,7 +396,7 @@ impl ReadsProduction<Row> for MemberBehind {
     }
 }
 
-/// The same; in JavaScript the one modifier is `static`.
+/// The same; in JavaScript the only modifier is `static`.
 #[derive(Clone, Copy)]
 pub struct ModifiedMember(pub Lang, pub Context);
 

@@ -72,7 +72,7 @@ impl ReadsRhs<Row> for ParameterTail {
     }
 }
 
-/// '?'?, and what stands behind it.
+/// '?'?, and what follows.
 #[derive(Clone, Copy)]
 pub struct MarkIn<N>(pub N);
 

@@ -94,7 +94,7 @@ impl ReadsProduction<Row> for Key {
     }
 }
 
-/// A key and its signature; behind the key `constructor` the parameters are those of a constructor.
+/// A key and its signature; after the key `constructor` the parameters are those of a constructor.
 #[derive(Clone, Copy)]
 pub struct HeadIn<N>(pub bool, pub Context, pub Context, pub N);
 
@@ -135,7 +135,7 @@ impl<N: ReadsRhs<Row> + Copy> ReadsRhs<Row> for HeadIn<N> {
     }
 }
 
-/// The same with '?' behind the key.
+/// The same with '?' after the key.
 #[derive(Clone, Copy)]
 pub struct MarkedHeadIn<N>(pub bool, pub Context, pub Context, pub N);
 

@@ -1,4 +1,4 @@
-//! A text in the making that has parts of a source. Parts that stand there side by side are copied at once.
+//! A text in the making that has parts of a source. Parts that are side by side there are copied at once.
 
 ghost use Rattle.std.specs.Prelude.{◌≡◌, ◌++◌, ◌∷◌, ◌≤◌, [], OnOk, IfOk, IsTrue, slice_range, string_bytes};
 ghost use Rattle.std.specs.Fmt.{decimal};
@@ -8,7 +8,7 @@ ghost use Rattle.es_printer.specs.Inked.{inked, between};
 use std::alloc::{AllocError, Global};
 use std::marker::Model;
 
-/// The text so far, and behind it what is taken of the source and isn't copied yet.
+/// The text so far, and after it what is taken of the source and isn't copied yet.
 #[derive(Drop)]
 pub struct Ink<'a> {
     source: &'a str,
@@ -26,7 +26,7 @@ impl<'a> Model for Ink<'a> {
     ghost view = { λ p. record { source = p.source.now; text = string_bytes p.text ++ slice_range p.source.now p.from p.to } };
 }
 
-/// A part of a source, behind a text; one that is cut inside a character is answered as want of memory.
+/// Appends a part of a source to a text; one that is cut inside a character is reported as out of memory.
 fn copy(text: &mut String, source: &str, from: usize, to: usize) -> Result<(), AllocError>
     ensures { OnOk result (string_bytes text.new ≡ string_bytes text.old ++ slice_range source.now from to) }
 {
@@ -36,7 +36,7 @@ fn copy(text: &mut String, source: &str, from: usize, to: usize) -> Result<(), A
     Err(AllocError)
 }
 
-/// The same, and one blank behind it or none.
+/// The same, and one blank after it or none.
 fn copy_with(
     text: &mut String,
     source: &str,
@@ -65,7 +65,7 @@ fn indent(out: &mut String, depth: u32) -> Result<(), AllocError>
     Ok(())
 }
 
-/// Whether a part of the source stands directly behind another, or with one blank between.
+/// Whether a part of the source is directly after another, or with one blank between.
 #[inline(always)]
 #[tactic(auto, using(crate::proofs::InkLemmas::no_blank, crate::proofs::InkLemmas::one_blank))]
 fn is_behind(source: &str, to: usize, blank: bool, start: usize) -> bool
@@ -140,7 +140,7 @@ impl<'a> Ink<'a> {
         indent(&mut self.text, depth)
     }
 
-    /// A part of the source, behind one blank or none.
+    /// A part of the source, after one blank or none.
     #[inline(always)]
     #[tactic(auto, using(crate::proofs::InkLemmas::taken))]
     pub fn take(&mut self, blank: bool, start: usize, end: usize) -> Result<(), AllocError>

@@ -31,7 +31,7 @@ pub enum Made {
     CloseParen,
     OpenBracket,
     CloseBracket,
-    /// `{`, behind which the line ends.
+    /// `{`, after which the line ends.
     OpenBrace,
     /// `}`, on a line of its own.
     CloseBrace,
@@ -42,7 +42,7 @@ pub enum Made {
     Ellipsis,
 }
 
-/// How it stands on its line.
+/// How it is placed on its line.
 pub fn stand_of(made: Made) -> Stand
     ensures { result ≡ stand_of made }
 {
@@ -140,7 +140,7 @@ pub fn front_of(made: Made) -> &'static str
     }
 }
 
-/// The number behind a name.
+/// The number of a name.
 pub fn number_of(made: Made) -> Option<u32>
     ensures { result ≡ number_of made }
 {

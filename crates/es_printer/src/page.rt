@@ -14,7 +14,7 @@ use es_comments::MultiThreadedComments;
 use es_token::{Comment, CommentKind, Token, TokenKind};
 use std::alloc::{AllocError, Global};
 
-/// What is written so far, how deep the line stands, and what was written last.
+/// What is written so far, how deep the line is, and what was written last.
 #[derive(Drop)]
 pub struct Page<'a> {
     pub ink: Ink<'a>,
@@ -95,7 +95,7 @@ impl<'a> Page<'a> {
         })
     }
 
-    /// What is written, with a line end behind the last line.
+    /// What is written, with a line end after the last line.
     pub fn finished(self) -> Result<String, AllocError>
         ensures { IfOk result (λ text. string_bytes text ≡ finished (lines_of self.entry)) }
     {
@@ -148,7 +148,7 @@ impl<'a> Page<'a> {
         Ok(())
     }
 
-    /// What stands before another text.
+    /// What comes before another text.
     fn begin(&mut self, left: Left, kind: TokenKind) -> Result<(), AllocError>
         ensures text { OnOk result (self.new.ink.text ≡ self.old.ink.text ++ gap self.old.depth self.old.last left kind) }
         ensures source { OnOk result (self.new.ink.source ≡ self.old.ink.source) }
@@ -171,7 +171,7 @@ impl<'a> Page<'a> {
         }
     }
 
-    /// A depth that 32 bits don't hold is answered as want of memory.
+    /// A depth that doesn't fit in 32 bits is reported as out of memory.
     fn line_behind(&mut self, deeper: Option<u8>) -> Result<(), AllocError>
         ensures lines { OnOk result (lines_of self.new ≡ line_behind deeper (lines_of self.old)) }
         ensures source { OnOk result (self.new.ink.source ≡ self.old.ink.source) }

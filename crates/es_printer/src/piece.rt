@@ -1,4 +1,4 @@
-//! What is printed, piece by piece, and how it stands on its line.
+//! What is printed, piece by piece, and how it is placed on its line.
 
 use crate::made::Made;
 use es_comments::MultiThreadedComments;
@@ -12,16 +12,16 @@ pub struct Source<'a> {
     pub comments: Option<&'a MultiThreadedComments>,
 }
 
-/// What a token asks of what stands before it on its line.
+/// What a token asks of what precedes it on its line.
 #[derive(Clone, Copy, Debug, PartialEq, Eq)]
 pub enum Left {
-    /// A word: a blank behind a word, a literal and `}`.
+    /// A word: a blank after a word, a literal and `}`.
     Word,
-    /// What begins an operand, a key or a list, and a literal: a blank behind a word.
+    /// What begins an operand, a key or a list, and a literal: a blank after a word.
     Begins,
     /// A blank.
     Apart,
-    /// A blank, but none behind another token of the same operator.
+    /// A blank, but none after another token of the same operator.
     Run,
     /// A blank only where the other asks for one.
     Tight,
@@ -29,14 +29,14 @@ pub enum Left {
     Never,
 }
 
-/// What a token asks of what stands behind it on its line.
+/// What a token asks of what follows it on its line.
 #[derive(Clone, Copy, Debug, PartialEq, Eq)]
 pub enum Right {
     /// A word.
     Word,
     /// A literal, and `}`.
     Ends,
-    /// The `}` of a body, behind which no `;` stands.
+    /// The `}` of a body, which no `;` follows.
     Body,
     /// A blank.
     Apart,
@@ -46,14 +46,14 @@ pub enum Right {
     Tight,
 }
 
-/// How a token stands.
+/// How a token is placed.
 #[derive(Clone, Copy, Debug, PartialEq, Eq)]
 pub struct Stand {
-    /// Where the line before it ends: how much less deep it stands.
+    /// If the line ends before it: how much less deep it is.
     pub out: Option<u8>,
     pub left: Left,
     pub right: Right,
-    /// Where its line ends behind it: how much deeper the next one stands.
+    /// If the line ends after it: how much deeper the next one is.
     pub into: Option<u8>,
 }
 
@@ -62,7 +62,7 @@ pub struct Stand {
 pub enum Piece {
     /// The comments before the token of this number, each on a line.
     Leading(u32),
-    /// What stands behind is written directly behind what stands before.
+    /// What follows is written directly after what precedes.
     Close,
     /// The token of this number.
     Token(Stand, u32),
@@ -70,7 +70,7 @@ pub enum Piece {
     Made(Made),
     /// `;`
     End,
-    /// `;`, but none behind a body.
+    /// `;`, but none after a body.
     BareEnd,
     /// The line ends.
     Line,

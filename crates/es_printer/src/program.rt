@@ -17,7 +17,7 @@ use es_syntax::Siblings;
 use es_token::Token;
 use std::alloc::{AllocError, Global};
 
-/// The page of the program that stands first in a row.
+/// The page of the program that is first in a row.
 #[tactic(auto, using(crate::proofs::LaidLemmas::whole))]
 fn program_page<'a>(
     alloc: Global,
@@ -34,7 +34,7 @@ fn program_page<'a>(
     Ok(draft.page)
 }
 
-/// The printed text of the program that stands first in a row, with the comments before its items where some are given.
+/// The printed text of the program that is first in a row, with the comments before its items where some are given.
 pub fn print_with(
     alloc: Global,
     text: &str,
@@ -52,7 +52,7 @@ pub fn print_with(
     program_page(alloc, &source, row)?.finished()
 }
 
-/// The printed text of the program that stands first in a row, without comments.
+/// The printed text of the program that is first in a row, without comments.
 pub fn print(
     alloc: Global,
     text: &str,

@@ -10,7 +10,7 @@ ghost use Rattle.es_printer.specs.Rows.{kept, first_kept, tree_at, all};
 
 use es_syntax::{Item, Siblings, What};
 
-/// The first part in a row, and those behind it.
+/// The first part in a row, and those after it.
 #[inline(always)]
 #[tactic(auto, using(crate::proofs::RowLemmas::kept_none, crate::proofs::RowLemmas::kept_some))]
 pub fn split<'t>(row: &Siblings<'t>) -> Option<(Item<'t>, Siblings<'t>)>

@@ -1,4 +1,4 @@
-//! The pieces of a node's own tokens, and those before and behind a node.
+//! The pieces of a node's own tokens, and those before and after a node.
 
 ghost use Rattle.std.specs.Prelude.{◌≡◌, ◌-◌, OnOk, slice_get};
 ghost use Rattle.es_printer.specs.Sheet.{put, before, behind, is_item, token_at, token_by, tokens_from, up_to};
@@ -53,7 +53,7 @@ pub fn before(
     out.push_if(source, own == Style::Tag, Piece::Close)
 }
 
-/// What is printed behind a node.
+/// What is printed after a node.
 #[inline(always)]
 #[tactic(auto, unfolding(crate::specs::Sheet::behind), using(crate::proofs::LaidLemmas::both))]
 pub fn behind(

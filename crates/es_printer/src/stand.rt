@@ -1,4 +1,4 @@
-//! How the tokens stand that belong to a node and to none of its parts.
+//! How the tokens that belong to a node and to none of its parts are placed.
 
 ghost use Rattle.std.specs.Prelude.{◌≡◌, slice_get};
 ghost use Rattle.es_grammar.specs.types.Words.{is_word};
@@ -8,7 +8,7 @@ use crate::piece::{Left, Right, Stand};
 use crate::style::Style;
 use es_token::{Token, TokenKind};
 
-// ---- where a token may stand
+// ---- how a token is placed
 
 pub fn on_line(left: Left, right: Right) -> Stand
     ensures { result ≡ on_line left right }
@@ -21,7 +21,7 @@ pub fn on_line(left: Left, right: Right) -> Stand
     }
 }
 
-/// The line ends behind it.
+/// The line ends after it.
 pub fn into(deeper: u8, left: Left) -> Stand
     ensures { result ≡ into deeper left }
 {
@@ -244,7 +244,7 @@ fn piece(style: Style, kind: TokenKind) -> Stand
     }
 }
 
-/// `case` and `default` of a `switch` stand less deep than what follows them.
+/// `case` and `default` of a `switch` are less deep than what follows them.
 #[tactic(auto, unfolding(crate::specs::Own::head))]
 fn head(style: Style, kind: TokenKind) -> Stand
     ensures { result ≡ head style kind }
@@ -417,7 +417,7 @@ fn listed(tokens: &[Token], style: Style, at: u32) -> Option<Stand>
     comma(style)
 }
 
-/// How a token of this kind stands, where it is printed.
+/// How a token of this kind is placed, if it is printed.
 #[inline(always)]
 #[tactic(auto, unfolding(crate::specs::Own::stand))]
 pub fn stand(tokens: &[Token], style: Style, kind: TokenKind, at: u32) -> Option<Stand>

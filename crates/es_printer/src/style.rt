@@ -5,7 +5,7 @@ ghost use Rattle.es_printer.specs.Table.{style, ends};
 
 use es_grammar::NodeKind;
 
-/// How the own tokens of a node are printed, and what stands in it.
+/// How the own tokens of a node are printed, and what is in it.
 #[derive(Clone, Copy, Debug, PartialEq, Eq)]
 pub enum Style {
     Plain,
@@ -15,7 +15,7 @@ pub enum Style {
     Block,
     /// Items in braces, each on a line.
     Body,
-    /// Members in braces, each on a line, behind a head.
+    /// Members in braces, each on a line, after a head.
     Fields,
     /// A member of a class or a type.
     Member,
@@ -41,17 +41,17 @@ pub enum Style {
     Operator,
     /// An operator before an operand.
     Prefix,
-    /// Brackets behind what they are of.
+    /// Brackets after what they are of.
     Index,
     /// `?` and `:` between operands.
     Question,
-    /// A template behind its tag.
+    /// A template after its tag.
     Tag,
     /// Names with `.` between them.
     Path,
 }
 
-/// Whether `;` stands behind a node.
+/// Whether `;` follows a node.
 #[derive(Clone, Copy, Debug, PartialEq, Eq)]
 pub enum Ends {
     Never,
@@ -282,7 +282,7 @@ pub fn style_of(label: NodeKind) -> Style
     }
 }
 
-/// Whether `;` stands behind a node of this alternative.
+/// Whether `;` follows a node of this alternative.
 #[tactic(auto, unfolding(crate::specs::Table::ends))]
 pub fn ends_of(label: NodeKind) -> Ends
     ensures { result ≡ ends label }

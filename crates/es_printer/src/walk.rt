@@ -16,7 +16,7 @@ use es_grammar::NodeKind;
 use es_syntax::{Item, Lean, Siblings, What};
 use std::alloc::AllocError;
 
-/// The alternative of nodes that lean left.
+/// The alternative of left-associative nodes.
 fn label_of(lean: Lean) -> NodeKind
     ensures { result ≡ label_of lean }
 {
@@ -26,7 +26,7 @@ fn label_of(lean: Lean) -> NodeKind
     }
 }
 
-/// What is printed of what stands there, in a node of this style.
+/// What is printed of an item, in a node of this style.
 #[inline(always)]
 #[cycle(walk)]
 #[tactic(auto, using(crate::proofs::WalkLemmas::walk_leaf, crate::proofs::WalkLemmas::walk_node, crate::proofs::WalkLemmas::walk_role, crate::proofs::WalkLemmas::walk_parts, crate::proofs::WalkLemmas::walk_lean))]
@@ -165,7 +165,7 @@ fn leaned(
     behind(out, source, here, label_of(lean), to)
 }
 
-/// Operators with their operands; the answer is the token behind the last one.
+/// Operators with their operands; returns the number of the token after the last one.
 #[cycle(walk)]
 #[tactic(auto, using(crate::proofs::WalkLemmas::turned_none, crate::proofs::WalkLemmas::turned_more, crate::proofs::WalkLemmas::last_none, crate::proofs::WalkLemmas::last_more))]
 fn turned(

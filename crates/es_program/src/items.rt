@@ -1,10 +1,10 @@
-//! The items of a program, as they stand in its row of entries.
+//! The items of a program, as its row of entries holds them.
 //!
 //! - `module_body`, `script_body`: the items of a program that is lent (`items_left`, `specs/items/Lent.antt`); `Body`, an iterator
 //!   over them; `first_item`: the first of them and the rest.
-//! - `ModuleItemRef`: an import or an export, or a statement: a node with its text and its tokens. Its `span`, and what it
-//!   `told` of its module.
-//! - `tells_script`: whether the items of a module tell that it is one of CommonJS.
+//! - `ModuleItemRef`: an import or an export, or a statement: a node with its text and its tokens. Its `span`, and `told`: what
+//!   it says of its module.
+//! - `tells_script`: whether the items of a module say that it is a CommonJS module.
 
 mod body;
 mod item;

@@ -47,7 +47,7 @@ fn end_before(tokens: &[Token], at: usize) -> usize
     end_of(tokens, at - 1)
 }
 
-/// The bytes of a node, from its first token up to the token behind its last one.
+/// The bytes of a node, given by its first token and the token after its last one.
 #[tactic(auto, unfolding(es_lowering::specs::Texts::span_of))]
 pub fn span_at(tokens: &[Token], from: usize, to: usize) -> Range
     ensures { result ≡ texts.span_of tokens.now from to }
@@ -61,7 +61,7 @@ pub fn span_at(tokens: &[Token], from: usize, to: usize) -> Range
     Range { start, end }
 }
 
-/// What stands between two places of a text.
+/// The part of a text between two offsets.
 fn piece(text: &str, start: usize, end: usize) -> &str
     requires { Cuts text.now start end }
     ensures { result.now ≡ slice_range text.now start end }
@@ -69,7 +69,7 @@ fn piece(text: &str, start: usize, end: usize) -> &str
     &text[start..end]
 }
 
-/// The line behind `#!` of a token that is one.
+/// What follows `#!` in a token that is a shebang.
 #[tactic(auto, unfolding(es_lowering::specs::Texts::shebang_of))]
 fn line_of(text: &str, token: Token) -> Option<&str>
     requires { token.kind ≡ TokenKind.Shebang → Cuts text.now (token.range.start + 2) token.range.end }
@@ -82,7 +82,7 @@ fn line_of(text: &str, token: Token) -> Option<&str>
     Some(piece(text, range.start + 2, range.end))
 }
 
-/// The line behind `#!` of the token at this place, where it is one.
+/// What follows `#!` in the token at this place, if it is a shebang.
 #[tactic(auto, using(crate::proofs::CutLemmas::line_cut))]
 pub fn shebang_at<'a>(text: &'a str, tokens: &[Token], at: usize) -> Option<&'a str>
     requires { ReadsTokens text.now tokens.now }

@@ -4,7 +4,7 @@
 //!   Copies share what they own.
 //! - `Form`: a program as a module or as a script.
 //! - `SharedTokens`: the tokens of a text, shared by their copies.
-//! - `span_at`: where a node stands.
+//! - `span_at`: the range of a node.
 #![tactic(auto)]
 
 mod form;

@@ -22,7 +22,7 @@ use std::alloc::{AllocError, Global};
 use std::marker::Model;
 use std::sync::Arc;
 
-/// A program: its text, its tokens, what stands where, and its sites. Its copies share all of it.
+/// A program: its text, its tokens, its entries, and its sites. Its copies share all of it.
 #[derive(Drop)]
 pub struct Program {
     form: Form,
@@ -135,7 +135,7 @@ impl Program {
         }
     }
 
-    /// The line behind `#!`, without them.
+    /// What follows `#!` in its shebang.
     pub fn shebang(&self) -> Option<&str>
         ensures { MatchOption result (shebang_in self.now.typed ≡ None) (λ line. shebang_in self.now.typed ≡ Some line.now) }
     {

@@ -17,7 +17,7 @@ use std::alloc::{AllocError, Global};
 use std::marker::Model;
 use std::sync::Arc;
 
-/// A script: its text, its tokens, what stands where, and its sites. Its copies share all of it.
+/// A script: its text, its tokens, its entries, and its sites. Its copies share all of it.
 #[derive(Drop)]
 pub struct Script {
     source: Arc<ProgramSource>,
@@ -89,7 +89,7 @@ impl Script {
         self.source().span()
     }
 
-    /// The line behind `#!`, without them.
+    /// What follows `#!` in its shebang.
     pub fn shebang(&self) -> Option<&str>
         ensures { MatchOption result (self.now.typed.shebang ≡ None) (λ line. self.now.typed.shebang ≡ Some line.now) }
     {

@@ -1,4 +1,4 @@
-//! What stands behind a program.
+//! What a program owns.
 ghost use Rattle.std.specs.Prelude.{◌≡◌, Some};
 ghost use Rattle.es_ast.specs.declared.ast.Program.{Program as Typed};
 ghost use Rattle.es_lexer.specs.Reads.{ReadsTokens};
@@ -17,7 +17,7 @@ use es_site::Site;
 use es_syntax::{Entry, Item, Siblings, What};
 use source_text::SourceText;
 
-/// What stands behind a program: what its copies share.
+/// What a program owns: what its copies share.
 #[derive(Drop)]
 pub struct ProgramSource {
     pub text: SourceText,
@@ -54,7 +54,7 @@ impl ProgramSource {
         }
     }
 
-    /// Where the program stands.
+    /// The range of the program.
     #[tactic(auto, using(crate::proofs::Programs::span_told))]
     pub fn span(&self) -> Range
         ensures { (p : Typed) → typed_of self.now ≡ Some p → span_in p ≡ result }
@@ -65,7 +65,7 @@ impl ProgramSource {
         }
     }
 
-    /// The line behind `#!`.
+    /// What follows `#!`.
     #[tactic(auto, using(crate::proofs::Programs::line_told))]
     pub fn shebang(&self) -> Option<&str>
         requires { ReadsTokens self.now.text self.now.tokens }
@@ -77,7 +77,7 @@ impl ProgramSource {
         }
     }
 
-    /// The line behind `#!` of a token that is one.
+    /// What follows `#!` in a token that is a shebang.
     fn line_at(&self, at: Option<u32>) -> Option<&str>
         requires { ReadsTokens self.now.text self.now.tokens }
         ensures { LentAs result (given (token_there self.now.tokens at) (shebang_of self.now.text)) }

@@ -7,7 +7,7 @@ ghost use Rattle.es_program_reader.specs.Rows.{kept_in, trees_at, tree_at, first
 
 use es_syntax::{Item, Siblings, What};
 
-/// The first part, and those behind it.
+/// The first part, and those after it.
 #[tactic(auto, using(crate::proofs::RowLemmas::kept_none, crate::proofs::RowLemmas::kept_some))]
 pub fn first_part<'a>(row: Siblings<'a>) -> Option<(Item<'a>, Siblings<'a>)>
     ensures kept { kept_in row.entry.entries.now ≡ first_kept result }

@@ -25,7 +25,7 @@ use std::alloc::{AllocError, Global};
 /// The most nodes on a path of a tree: the program's own, and 500 below it.
 const MOST_NODES: usize = 501;
 
-/// A row of the table, where so many rows may stand on a path.
+/// A row of the table, with at most `room` rows on a path.
 fn row(input: Input<'_>, room: usize, row: Row, cursor: &mut Cursor) -> Result<usize, SyntaxError>
     ensures { IsRead input.entry.keeps (row_at (rule input.entry.lang) (keys_in input.entry) room row cursor.old.at) cursor.old.row cursor.new result }
 {

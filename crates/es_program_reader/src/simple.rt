@@ -34,7 +34,7 @@ fn is_member(item: Item<'_>) -> bool
     }
 }
 
-/// The alternative of `!` behind a part.
+/// The alternative of `!` after a part.
 fn names_non_null(label: NodeKind) -> bool
     ensures { result ≡ names_non_null label }
 {
@@ -44,7 +44,7 @@ fn names_non_null(label: NodeKind) -> bool
     }
 }
 
-/// `!` behind a part.
+/// `!` after a part.
 #[tactic(auto, using(crate::proofs::Equations::non_null_leaf, crate::proofs::Equations::non_null_node, crate::proofs::Equations::non_null_role, crate::proofs::Equations::non_null_parts, crate::proofs::RowLemmas::non_null_leant))]
 fn is_non_null(item: Item<'_>) -> bool
     ensures { result ≡ is_non_null (tree_at item.entry) }
@@ -99,7 +99,7 @@ fn behind_turns(before: bool, turns: Siblings<'_>) -> bool
     ends
 }
 
-/// A chain ends in `.a` or `[a]`, or in `!` behind a simple target.
+/// A chain ends in `.a` or `[a]`, or in `!` after a simple target.
 #[tactic(auto, unfolding(crate::specs::Sound::ends_in_member), using(crate::proofs::RowLemmas::turns_same))]
 fn ends_in_member(before: bool, part: Item<'_>, more: Item<'_>) -> bool
     ensures { result ≡ ends_in_member before (tree_at part.entry) (tree_at more.entry) }
@@ -107,7 +107,7 @@ fn ends_in_member(before: bool, part: Item<'_>, more: Item<'_>) -> bool
     behind_turns(behind_part(before, part), parts_of_turn(more))
 }
 
-/// The parts of a chain behind its base end so.
+/// The parts of a chain after its base end so.
 fn rest_ends(before: bool, rest: Siblings<'_>) -> bool
     ensures { (base : Cst) → result ≡ chain_ends before (base ∷ trees_at rest.entry) }
 {
@@ -187,7 +187,7 @@ fn is_one_assertion(parts: Siblings<'_>) -> bool
     }
 }
 
-/// Each turn of a chain that leans left is an assertion.
+/// Each turn of a left-associative chain is an assertion.
 fn all_assert(turns: Siblings<'_>) -> bool
     ensures { result ≡ all_assert (trees_at turns.entry) }
 {
@@ -201,7 +201,7 @@ fn all_assert(turns: Siblings<'_>) -> bool
     true
 }
 
-/// A simple target behind which such a turn alone stands.
+/// A simple target followed by one assertion alone.
 #[tactic(auto, using(crate::proofs::RowLemmas::turn_target))]
 fn is_asserted_target(inner: bool, parts: Siblings<'_>) -> bool
     ensures { result ≡ asserted_target inner (trees_at parts.entry) }
@@ -253,7 +253,7 @@ fn is_simple_node(label: NodeKind, parts: Siblings<'_>) -> bool
     }
 }
 
-/// A simple target stands before turns that are assertions, one at least.
+/// A simple target, followed by turns that are assertions, at least one.
 #[cycle(simple)]
 fn is_simple_leaning(parts: Siblings<'_>) -> bool
     ensures { result ≡ leant_simple (trees_at parts.entry) }

@@ -72,7 +72,7 @@ fn unsound_at(item: Item<'_>) -> Option<u32>
     }
 }
 
-/// The same of the first of these parts, which stands in another role and has to be a simple target.
+/// The same of the first of these parts, which has another role and must be a simple target.
 #[tactic(auto, using(crate::proofs::Equations::simple_parts))]
 #[cycle(sound)]
 fn unsound_target(from: u32, parts: Siblings<'_>) -> Option<u32>
@@ -89,7 +89,7 @@ fn unsound_target(from: u32, parts: Siblings<'_>) -> Option<u32>
     }
 }
 
-/// The same of nodes that lean left over these parts.
+/// The same of left-associative nodes over these parts.
 #[cycle(sound)]
 fn unsound_leaning(parts: Siblings<'_>) -> Option<u32>
     ensures { is_none result ≡ leant_sound (trees_at parts.entry) }

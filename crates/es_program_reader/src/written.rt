@@ -10,7 +10,7 @@ use crate::simple::first_is_simple;
 use crate::sound::{first_unsound, may_hold};
 use es_syntax::{Item, Siblings, What};
 
-/// The first entry with its parts, and all entries behind it, those of its parts among them.
+/// The first entry with its parts, and all entries after it, those of its parts among them.
 #[tactic(auto, using(crate::proofs::WrittenLemmas::next_none, crate::proofs::WrittenLemmas::next_some))]
 fn next_entry<'a>(row: Siblings<'a>) -> Option<(Item<'a>, Siblings<'a>)>
     ensures next { each_holds_target row.entry.entries.now ≡ next_holds_target result }
@@ -33,7 +33,7 @@ fn next_entry<'a>(row: Siblings<'a>) -> Option<(Item<'a>, Siblings<'a>)>
     }
 }
 
-/// What is assigned to, or updated, by what stands there is a simple target.
+/// What is assigned to, or updated, by this item is a simple target.
 #[inline(always)]
 fn holds_target(item: Item<'_>) -> bool
     ensures { result ≡ holds_target item.entry.what (trees_at item.entry.parts) }

@@ -18,7 +18,7 @@ fn blanks(text: &str) -> usize
     bytes.iter().take_while(|b| is_blank(**b)).count()
 }
 
-/// The text behind the blanks and tabs at its front.
+/// The text after its leading blanks and tabs.
 pub fn behind_blanks(text: &str) -> &str
     ensures { result.now ≡ spec.behind_blanks text.now }
 {
@@ -29,7 +29,7 @@ pub fn behind_blanks(text: &str) -> &str
     &text[count..]
 }
 
-/// The same where there is one at least.
+/// The same, if there is at least one.
 pub fn behind_gap(text: &str) -> Option<&str>
     ensures { option_copied result ≡ spec.behind_gap text.now }
 {
@@ -46,7 +46,7 @@ pub fn begins(text: &str, front: &str) -> bool
     text.starts_with(front)
 }
 
-/// The text behind this front, where it begins with it.
+/// The text after this prefix, if it begins with it.
 pub fn behind<'a>(front: &str, text: &'a str) -> Option<&'a str>
     ensures { option_copied result ≡ spec.behind front.now text.now }
 {
@@ -67,7 +67,7 @@ pub fn has_end(text: &str) -> bool
     false
 }
 
-/// A value, and what stands behind its closing quote.
+/// A value, and the text after its closing quote.
 pub fn quoted(text: &str) -> Option<(&str, &str)>
     ensures { option_map (λ q. (q.0.now, q.1.now)) result ≡ spec.quoted text.now }
 {
@@ -80,7 +80,7 @@ pub fn quoted(text: &str) -> Option<(&str, &str)>
     }
 }
 
-// Up to the first `"`, where no `'` stands before it.
+// Up to the first `"`, if no `'` precedes it.
 fn closed_double(text: &str) -> Option<(&str, &str)>
     ensures { option_map (λ q. (q.0.now, q.1.now)) result ≡ spec.closed_by 34 39 text.now }
 {
@@ -90,7 +90,7 @@ fn closed_double(text: &str) -> Option<(&str, &str)>
     }
 }
 
-// Up to the first `'`, where no `"` stands before it.
+// Up to the first `'`, if no `"` precedes it.
 fn closed_single(text: &str) -> Option<(&str, &str)>
     ensures { option_map (λ q. (q.0.now, q.1.now)) result ≡ spec.closed_by 39 34 text.now }
 {
@@ -100,7 +100,7 @@ fn closed_single(text: &str) -> Option<(&str, &str)>
     }
 }
 
-// The value and what stands behind, where the value is without this byte.
+// The value and the text after it, if the value is without this byte.
 fn without<'a>(other: u8, value: &'a str, behind: &'a str) -> Option<(&'a str, &'a str)>
     ensures { option_map (λ q. (q.0.now, q.1.now)) result ≡ spec.without other value.now behind.now }
 {

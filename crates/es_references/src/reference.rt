@@ -12,9 +12,9 @@ use es_site::DependencyKind;
 pub struct Reference<'a> {
     pub kind: DependencyKind,
     pub value: &'a str,
-    /// What stands from the value's quote on.
+    /// The text from the value's quote on.
     pub from: &'a str,
-    /// What stands behind its closing quote.
+    /// The text after its closing quote.
     pub behind: &'a str,
 }
 
@@ -27,7 +27,7 @@ pub fn reference_in(text: &str) -> Option<Reference<'_>>
     reference_named(kind, rest)
 }
 
-// Behind the word for the kind.
+// After the word for the kind.
 fn reference_named(kind: DependencyKind, rest: &str) -> Option<Reference<'_>>
     ensures { option_map reference_of_parts result ≡ spec.reference_named (kind, rest.now) }
 {
@@ -51,7 +51,7 @@ fn reference_from(kind: DependencyKind, from: &str) -> Option<Reference<'_>>
     }
 }
 
-// What stands behind `/ <reference `.
+// The text after `/ <reference `.
 fn behind_opening(text: &str) -> Option<&str>
     ensures { option_copied result ≡ spec.behind_opening text.now }
 {
@@ -60,7 +60,7 @@ fn behind_opening(text: &str) -> Option<&str>
     behind_gap(rest)
 }
 
-// What it refers to, and what stands behind the word that says so.
+// The kind of the reference, and the text after the word for it.
 fn named(text: &str) -> Option<(DependencyKind, &str)>
     ensures { option_map (λ n. (n.0, n.1.now)) result ≡ spec.named text.now }
 {
@@ -71,7 +71,7 @@ fn named(text: &str) -> Option<(DependencyKind, &str)>
     Some((DependencyKind::ReferenceTypes, rest))
 }
 
-// What stands behind the `=`.
+// The text after the `=`.
 fn behind_equals(text: &str) -> Option<&str>
     ensures { option_copied result ≡ spec.behind_equals text.now }
 {

@@ -30,7 +30,7 @@ pub fn references(
     Ok(found)
 }
 
-// The first token, or that behind the shebang.
+// The first token that is no shebang.
 fn first_token(tokens: &[Token]) -> Option<Token>
     ensures { result ≡ spec.first_token tokens.now }
 {
@@ -57,7 +57,7 @@ fn is_before(comment: &Comment, first: &Option<Token>) -> bool
     }
 }
 
-// Puts the site of a comment behind those found, where it refers.
+// Appends the site of a comment, if it is a reference.
 fn add_reference(
     alloc: Global,
     comment: &Comment,

@@ -1,4 +1,4 @@
-//! What is read behind an operand that was read already.
+//! What is read after an operand that was read already.
 
 ghost use Rattle.std.specs.Prelude.{◌≡◌, List, length};
 ghost use Rattle.es_syntax.specs.declared.entry.Entry.{Entry};
@@ -15,12 +15,12 @@ use crate::wraps::wraps;
 use es_grammar::NodeKind;
 use grammar_theory::SyntaxError;
 
-/// What reads turns behind an operand.
+/// What reads turns after an operand.
 pub trait ReadsBehind<R> {
     // The rule of an operand of this rule with them.
     ghost over: { Self → Production R NodeKind → Production R NodeKind };
 
-    /// The tree of an operand that was read from a place on, with the turns that stand here: whatever rule read it.
+    /// The tree of an operand that any rule read from a place on, with the turns that follow it.
     fn read<T: Rows<R>>(
         &self,
         from: Place,
@@ -54,7 +54,7 @@ impl<R, C: Tells, P: ReadsRhs<R>> ReadsBehind<R> for Turns<C, P> {
     }
 }
 
-/// Some turns, and others behind them.
+/// Some turns, and others after them.
 #[derive(Clone, Copy)]
 pub struct Both<A, B>(pub A, pub B);
 

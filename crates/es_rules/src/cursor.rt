@@ -33,7 +33,7 @@ pub struct Cursor {
     pub row: Writer,
 }
 
-/// Where an operand begins: the number of its first token, and how many entries stand before its own.
+/// Where an operand begins: the number of its first token, and how many entries precede its own.
 #[derive(Clone, Copy)]
 pub struct Place {
     pub token: usize,
@@ -90,7 +90,7 @@ pub fn open_before(row: &mut Writer, keeps: bool, place: usize) -> Result<(), Al
     row.open_before(place)
 }
 
-/// Closes the node that was opened at this place, where entries are kept; tokens are told by their numbers.
+/// Closes the node that was opened at this place, where entries are kept; tokens are given by their numbers.
 #[inline(always)]
 pub fn close(
     row: &mut Writer,
@@ -191,7 +191,7 @@ pub fn take<K: IsOfKinds>(
     Ok(())
 }
 
-/// The number of a token in 32 bits; a greater one is answered as want of memory.
+/// The number of a token in 32 bits; a greater one is answered as out of memory.
 #[inline(always)]
 pub fn number(at: usize) -> Result<u32, AllocError>
     ensures { IfOk result (λ n. n ≡ at) }
@@ -223,7 +223,7 @@ pub fn highest(one: usize, other: usize) -> usize
     if one < other { other } else { one }
 }
 
-/// The most nodes on a path of a part, and of those behind it.
+/// The most nodes on a path of a part, and of those after it.
 #[inline(always)]
 pub fn higher(part: usize, rest: Result<usize, SyntaxError>) -> Result<usize, SyntaxError>
     ensures { result ≡ higher_of part rest }
@@ -247,8 +247,8 @@ pub fn counted(parts: usize, cursor: &Cursor) -> Result<usize, SyntaxError>
     Ok(parts + 1)
 }
 
-/// The most nodes on a path of a node that leans, by that of its first operand, which stands as deep as the node, and that of
-/// the parts behind it, where no path of it has too many.
+/// The most nodes on a path of a left-associative node, by that of its first operand, which is as deep as the node, and that
+/// of the parts after it, where no path of it has too many.
 #[tactic(auto, unfolding(grammar_theory::specs::Fits::most_nodes))]
 #[inline(always)]
 pub fn reached(first: usize, parts: usize, cursor: &Cursor) -> Result<usize, SyntaxError>

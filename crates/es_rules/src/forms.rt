@@ -20,7 +20,7 @@ pub trait ReadsRhs<R> {
     // The form that is read.
     ghost form: { Self → Rhs R };
 
-    /// Puts the parts that stand here behind those that were read.
+    /// Appends the parts at this place to those that were read.
     fn read<T: Rows<R>>(
         &self,
         grammar: &Grammar<'_, T>,
@@ -228,7 +228,7 @@ impl<R, C: Tells, P: ReadsRhs<R>, N: ReadsRhs<R>> ReadsRhs<R> for Many<C, P, N> 
     }
 }
 
-/// A part by either of two forms, and more: the test tells which.
+/// A part by either of two forms, and more: the test says which.
 #[derive(Clone, Copy)]
 pub struct Alt<S, A, B, N>(pub S, pub A, pub B, pub N);
 
@@ -246,7 +246,7 @@ impl<R, S: Sees, A: ReadsRhs<R>, B: ReadsRhs<R>, N: ReadsRhs<R>> ReadsRhs<R> for
     }
 }
 
-/// What stands here only where the test holds.
+/// What is allowed only where the test holds.
 #[derive(Clone, Copy)]
 pub struct When<S, N>(pub S, pub N);
 
@@ -266,7 +266,7 @@ impl<R, S: Sees, N: ReadsRhs<R>> ReadsRhs<R> for When<S, N> {
     }
 }
 
-/// What stands here only where the predicate holds.
+/// What is allowed only where the predicate holds.
 #[derive(Clone, Copy)]
 pub struct Where<G, N>(pub G, pub N);
 

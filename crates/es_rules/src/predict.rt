@@ -49,7 +49,7 @@ pub trait Tells {
         ensures { result ≡ test (told self.now) (keys_in input.now) at };
 }
 
-/// It may always be there or not: the test tells which of the two is read, and bars no reading.
+/// It may always be there or not: the test says which of the two is read, and bars no reading.
 #[derive(Clone, Copy)]
 pub struct ByLookahead<A>(pub A);
 
@@ -95,7 +95,7 @@ pub enum LeafKind {
     Str,
     /// A name, with its text.
     Name,
-    /// Its text as it stands.
+    /// Its text as written.
     Raw,
     /// Which token it is.
     Kind,

@@ -22,7 +22,7 @@ pub trait ReadsProduction<R> {
     // The rule that is read.
     ghost rule: { Self → Production R NodeKind };
 
-    /// The tree that stands here.
+    /// The tree that begins here.
     fn read<T: Rows<R>>(
         &self,
         grammar: &Grammar<'_, T>,
@@ -122,7 +122,7 @@ impl<R, P: ReadsRhs<R>> ReadsProduction<R> for MakeBy<P> {
     }
 }
 
-/// One of two: the test tells which.
+/// One of two: the test says which.
 #[derive(Clone, Copy)]
 pub struct Choose<S, A, B>(pub S, pub A, pub B);
 
@@ -143,7 +143,7 @@ impl<R, S: Sees, A: ReadsProduction<R>, B: ReadsProduction<R>> ReadsProduction<R
     }
 }
 
-/// One of two: a written predicate tells which.
+/// One of two: a written predicate says which.
 #[derive(Clone, Copy)]
 pub struct Pick<G, A, B>(pub G, pub A, pub B);
 
@@ -185,7 +185,7 @@ impl<R, A: ReadsProduction<R>> ReadsProduction<R> for As<A> {
     }
 }
 
-/// An operand, and turns behind it: each makes a node, whose first part is what was read before it.
+/// An operand, and turns after it: each makes a node, whose first part is what was read before it.
 #[derive(Clone, Copy)]
 pub struct Wrap<A, C, P>(pub NodeKind, pub A, pub C, pub P);
 

@@ -1,4 +1,4 @@
-//! Turns behind an operand: each makes a node, whose first part is what was read before it.
+//! Turns after an operand: each makes a node, whose first part is what was read before it.
 
 ghost use Rattle.std.specs.Prelude.{◌≡◌, ◌∷◌, [], length, true, false, List, leb, ◌+◌, ◌<◌, IfSome, IfOk, IfNone, OnOk, OnErr};
 ghost use Rattle.grammar_theory.specs.Key.{keys_of};
@@ -23,7 +23,7 @@ use es_syntax::{Entry, Lean, What, Writer};
 use grammar_theory::SyntaxError;
 use std::alloc::AllocError;
 
-/// The alternatives that lean left: a chain of them is one entry.
+/// The left-associative alternatives: a chain of them is one entry.
 #[inline(always)]
 fn lean_of(label: NodeKind) -> Option<Lean>
     ensures some { IfSome result (λ lean. label_of lean ≡ label) }
@@ -37,8 +37,8 @@ fn lean_of(label: NodeKind) -> Option<Lean>
     }
 }
 
-/// The most nodes on a path of a node of an operand and of a turn behind it, where no path of it has too many: where it
-/// leans, the operand stands as deep as the node.
+/// The most nodes on a path of a node of an operand and of a turn after it, where no path of it has too many: where it is
+/// left-associative, the operand is as deep as the node.
 #[inline(always)]
 fn turned(
     label: NodeKind,
@@ -55,7 +55,7 @@ fn turned(
     }
 }
 
-/// One turn behind an operand: a node of both.
+/// One turn after an operand: a node of both.
 fn wrapped<R, P: ReadsRhs<R>, T: Rows<R>>(
     label: NodeKind,
     turn: &P,
@@ -84,7 +84,7 @@ fn wrapped<R, P: ReadsRhs<R>, T: Rows<R>>(
     Ok(height)
 }
 
-/// The turns behind an operand, each of which makes a node of its own.
+/// The turns after an operand, each of which makes a node of its own.
 fn nests<R, C: Tells, P: ReadsRhs<R>, T: Rows<R>>(
     label: NodeKind,
     told: &C,
@@ -110,7 +110,7 @@ fn nests<R, C: Tells, P: ReadsRhs<R>, T: Rows<R>>(
     Ok(height)
 }
 
-/// One turn of a chain that leans left.
+/// One turn of a left-associative chain.
 fn leaned<R, P: ReadsRhs<R>, T: Rows<R>>(
     turn: &P,
     first: usize,
@@ -170,7 +170,7 @@ fn open_chain(row: &mut Writer, lean: Lean, from: Place) -> Result<(), AllocErro
     open_before(row, true, from.entry)
 }
 
-/// The turns behind an operand as one chain: one turn at least.
+/// The turns after an operand as one chain: at least one turn.
 fn leans<R, C: Tells, P: ReadsRhs<R>, T: Rows<R>>(
     lean: Lean,
     told: &C,
@@ -207,7 +207,7 @@ fn leans<R, C: Tells, P: ReadsRhs<R>, T: Rows<R>>(
     Ok(height)
 }
 
-/// The turns behind an operand that was read from a place on: no more than there are tokens.
+/// The turns after an operand that was read from a place on: no more than there are tokens.
 #[inline(always)]
 pub fn wraps<R, C: Tells, P: ReadsRhs<R>, T: Rows<R>>(
     label: NodeKind,

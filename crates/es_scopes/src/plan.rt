@@ -1,4 +1,4 @@
-//! Where names and scopes stand among the parts of a node.
+//! Where names and scopes are among the parts of a node.
 
 ghost use Rattle.std.specs.Prelude.{◌≡◌, ◌≤◌, length};
 ghost use Rattle.es_scopes.specs.Plan.{plan};

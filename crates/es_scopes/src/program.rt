@@ -12,7 +12,7 @@ use es_token::Token;
 use es_walk::walk_first;
 use std::alloc::{AllocError, Global};
 
-/// The names and scopes of the program that stands first in a row, in the order of the text.
+/// The names and scopes of the program that is first in a row, in the order of the text.
 pub fn program_marks(
     alloc: Global,
     tokens: &[Token],

@@ -78,7 +78,7 @@ fn turn_plan(turn: Turn) -> &'static [Step<Way, Act, Turn>]
     }
 }
 
-/// The steps of what stands after a first operand.
+/// The steps of what follows a first operand.
 #[tactic(auto, unfolding(crate::specs::Marks::operand_plan))]
 fn operand_plan(_lean: Lean) -> &'static [Step<Way, Act, Turn>]
     ensures value { result.now ≡ operand_plan _lean }
@@ -96,7 +96,7 @@ fn is_kind(tokens: &[Token], at: usize, kind: TokenKind) -> bool
     }
 }
 
-/// By the word that stands first: `var`, or another.
+/// By the first word: `var`, or another.
 fn word_by(tokens: &[Token], at: Option<u32>) -> Place
     ensures { word_by tokens.now at ≡ result }
 {

@@ -1,6 +1,6 @@
 //! What a walk over a tree meets of names and scopes, and what it does at a node.
 
-/// How a name that stands at a place is meant.
+/// How a name at a place is meant.
 #[derive(Clone, Copy)]
 pub enum Place {
     /// In an expression or a type: it is used.
@@ -46,7 +46,7 @@ pub enum When {
     Apart,
     /// Where a `try` has a `catch`.
     Caught,
-    /// Where `{` stands after the token that is the first part.
+    /// Where `{` follows the token that is the first part.
     Braced,
     /// Where an expression has a name of its own at this place.
     Named(usize),
@@ -59,13 +59,13 @@ pub enum Act {
     Close(When),
     /// The name that is the part at this place; `this` is none.
     Name(Way, usize),
-    /// The name that stands in the group at the first place, at the second.
+    /// The name in the group at the first place, at the second.
     NameIn(Way, usize, usize),
     /// The name of a function or a class, which may be absent.
     Own(usize),
 }
 
-/// What stands in a turn of a list.
+/// What is in a turn of a list.
 #[derive(Clone, Copy)]
 pub enum Turn {
     /// What a case of `switch` tests, and its statements.

@@ -38,7 +38,7 @@ impl ReadsRhs<Row> for Ended {
     }
 }
 
-/// ('await' ~)? 'using' ~, and what stands behind it
+/// ('await' ~)? 'using' ~, and what follows
 #[derive(Clone, Copy)]
 pub struct UsingIn<N>(pub Context, pub N);
 

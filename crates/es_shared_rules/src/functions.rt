@@ -14,7 +14,7 @@ use es_rules::{
 use es_token::TokenKind;
 use grammar_theory::{Lang, SyntaxError};
 
-/// '*'?, and what stands behind it
+/// '*'?, and what follows
 #[derive(Clone, Copy)]
 pub struct StarIn<N>(pub N);
 
@@ -36,7 +36,7 @@ impl<N: ReadsRhs<Row> + Copy> ReadsRhs<Row> for StarIn<N> {
     }
 }
 
-/// A name, which may lack where it isn't asked for, and what stands behind it.
+/// A name, required (true) or optional (false), and what follows.
 #[derive(Clone, Copy)]
 pub struct NameIn<N>(pub bool, pub N);
 
@@ -62,7 +62,7 @@ impl<N: ReadsRhs<Row> + Copy> ReadsRhs<Row> for NameIn<N> {
     }
 }
 
-/// A class's name, which may lack where it isn't asked for, and what stands behind it.
+/// A class's name, required (true) or optional (false), and what follows.
 #[derive(Clone, Copy)]
 pub struct ClassNameIn<N>(pub Lang, pub bool, pub N);
 

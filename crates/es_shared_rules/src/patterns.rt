@@ -12,7 +12,7 @@ use es_rules::{
 use es_token::TokenKind;
 use grammar_theory::{Lang, SyntaxError};
 
-/// ('=' Assign)?, and what stands behind it
+/// ('=' Assign)?, and what follows
 #[derive(Clone, Copy)]
 pub struct DefaultIn<N>(pub Context, pub N);
 
@@ -137,7 +137,7 @@ impl ReadsProduction<Row> for BracketPattern {
     }
 }
 
-/// Pat, at the outside: Name | '[' .. ']' | '{' .. '}', and where it is assigned to (true) no name, nor a target, stands alone.
+/// Pat, outermost: Name | '[' .. ']' | '{' .. '}'; a name or target by itself isn't allowed where it is assigned to (true).
 #[derive(Clone, Copy)]
 pub struct Pattern(pub Lang, pub bool, pub Context);
 

@@ -4,7 +4,7 @@
 //! - `Kinds`, `Lookahead`, `Predicate`: tests and predicates named by a value, the plain ones among them, as the reader of the tables
 //!   asks them (`IsOfKinds`, `Sees`, `Holds` of `es_rules`); `holds` asks a predicate of tokens alone.
 //! - `opens_operator`, and `opens_arithmetic`, `opens_comparing`, `opens_bitwise`, `opens_logical`: whether a token that may
-//!   stand behind an operand stands there, by its kind alone (`specs/predicates/Operators.antt`).
+//!   follow an operand is there, by its kind alone (`specs/predicates/Operators.antt`).
 //!
 //! Each answers what its definition in `es_grammar` says of the keys of the tokens. None asks anything of the place.
 

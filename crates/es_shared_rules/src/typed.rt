@@ -29,7 +29,7 @@ pub fn without_colon(lang: Lang, context: Context) -> Context
     }
 }
 
-/// Ref (',' Ref)*, and what stands behind it.
+/// Ref (',' Ref)*, and what follows.
 #[derive(Clone, Copy)]
 pub struct ReferencesIn<N>(pub N);
 
@@ -57,7 +57,7 @@ impl<N: ReadsRhs<Row> + Copy> ReadsRhs<Row> for ReferencesIn<N> {
     }
 }
 
-/// (TS TParams)?, and what stands behind it.
+/// (TS TParams)?, and what follows.
 #[derive(Clone, Copy)]
 pub struct TypeParametersIn<N>(pub Lang, pub N);
 
@@ -82,7 +82,7 @@ impl<N: ReadsRhs<Row> + Copy> ReadsRhs<Row> for TypeParametersIn<N> {
     }
 }
 
-/// (TS TArgs)?, and what stands behind it.
+/// (TS TArgs)?, and what follows.
 #[derive(Clone, Copy)]
 pub struct TypeArgumentsIn<N>(pub Lang, pub N);
 
@@ -107,7 +107,7 @@ impl<N: ReadsRhs<Row> + Copy> ReadsRhs<Row> for TypeArgumentsIn<N> {
     }
 }
 
-/// (TS (':' Type))?, and what stands behind it.
+/// (TS (':' Type))?, and what follows.
 #[derive(Clone, Copy)]
 pub struct AnnotationIn<N>(pub Lang, pub N);
 
@@ -135,7 +135,7 @@ impl<N: ReadsRhs<Row> + Copy> ReadsRhs<Row> for AnnotationIn<N> {
     }
 }
 
-/// (TS (':' Ret))?, and what stands behind it.
+/// (TS (':' Ret))?, and what follows.
 #[derive(Clone, Copy)]
 pub struct ResultIn<N>(pub Lang, pub N);
 
@@ -163,7 +163,7 @@ impl<N: ReadsRhs<Row> + Copy> ReadsRhs<Row> for ResultIn<N> {
     }
 }
 
-/// (TS TArgs, behind the operand of `new`)?, and what stands behind it.
+/// (TS TArgs, after the operand of `new`)?, and what follows.
 #[derive(Clone, Copy)]
 pub struct NewArgumentsIn<N>(pub Lang, pub N);
 
@@ -188,7 +188,7 @@ impl<N: ReadsRhs<Row> + Copy> ReadsRhs<Row> for NewArgumentsIn<N> {
     }
 }
 
-/// (TS TArgs, behind the operand of `extends`)?, and what stands behind it.
+/// (TS TArgs, after the operand of `extends`)?, and what follows.
 #[derive(Clone, Copy)]
 pub struct HeritageIn<N>(pub Lang, pub N);
 
@@ -213,7 +213,7 @@ impl<N: ReadsRhs<Row> + Copy> ReadsRhs<Row> for HeritageIn<N> {
     }
 }
 
-/// (TS ('implements' Ref%+))?, and what stands behind it.
+/// (TS ('implements' Ref%+))?, and what follows.
 #[derive(Clone, Copy)]
 pub struct ImplementsIn<N>(pub Lang, pub N);
 
@@ -238,7 +238,7 @@ impl<N: ReadsRhs<Row> + Copy> ReadsRhs<Row> for ImplementsIn<N> {
     }
 }
 
-/// (TS ':' Ret)? of an arrow, where a `:` may open it, and what stands behind it.
+/// (TS ':' Ret)? of an arrow, where a `:` may open it, and what follows.
 #[derive(Clone, Copy)]
 pub struct ArrowResultIn<N>(pub Lang, pub Context, pub N);
 

@@ -1,6 +1,6 @@
 //! The places where a program names other modules, and which of them a typed tree has: definitions, and no walk.
 //!
-//! - `Site`, `DependencyKind`, `Attribute`: what is told of each place.
+//! - `Site`, `DependencyKind`, `Attribute`: what describes each place.
 //! - `sites_of` (`specs/Sites.antt`): the sites of a typed tree, in the order of the text: the string literal of each
 //!   import, each export that has a `from`, each `import a = require("a")`, and each `import()` whose first argument is
 //!   a string literal, anywhere in the tree. `specs/Attributes.antt`: the attribute of each.

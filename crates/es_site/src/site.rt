@@ -28,7 +28,7 @@ pub enum DependencyKind {
     ReferenceTypes,
     /// An import of a WebAssembly module.
     Wasm,
-    /// An import that the caller gave for the referrer, which stands in no text.
+    /// An import that the caller gave for the referrer, which is in no text.
     Referrer,
 }
 

@@ -18,7 +18,7 @@ use es_shared_rules::{
 use es_token::TokenKind;
 use grammar_theory::{Lang, SyntaxError};
 
-/// '(' Expr ')', and what stands behind it
+/// '(' Expr ')', and what follows
 #[derive(Clone, Copy)]
 pub struct ConditionIn<N>(pub Context, pub N);
 

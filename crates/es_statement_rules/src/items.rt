@@ -227,7 +227,7 @@ impl ReadsProduction<Row> for Item {
     }
 }
 
-/// Shebang?, and what stands behind it
+/// Shebang?, and what follows
 #[derive(Clone, Copy)]
 pub struct ShebangIn<N>(pub N);
 

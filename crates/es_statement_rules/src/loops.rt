@@ -12,7 +12,7 @@ use es_shared_rules::predicates::{Kinds, Predicate};
 use es_token::TokenKind;
 use grammar_theory::SyntaxError;
 
-/// (Var | Using | Expr)?, where `in` is no operator, and what stands behind it
+/// (Var | Using | Expr)?, where `in` is no operator, and what follows
 #[derive(Clone, Copy)]
 pub struct StartIn<N>(pub Context, pub N);
 

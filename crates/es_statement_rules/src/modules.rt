@@ -15,7 +15,7 @@ use es_shared_rules::predicates::{Kinds, Predicate};
 use es_token::TokenKind;
 use grammar_theory::{Lang, SyntaxError};
 
-/// A word or a string literal, and what stands behind it.
+/// A word or a string literal, and what follows.
 #[derive(Clone, Copy)]
 pub struct WordOrStrIn<N>(pub N);
 
@@ -152,7 +152,7 @@ impl ReadsRhs<Row> for FromEnded {
     }
 }
 
-/// 'type'?, and what stands behind it
+/// 'type'?, and what follows
 #[derive(Clone, Copy)]
 pub struct TypeWordIn<N>(pub Predicate, pub N);
 
@@ -313,7 +313,7 @@ impl ReadsProduction<Row> for Entity {
     }
 }
 
-/// 'import' 'type'? Name '=', and what stands behind it
+/// 'import' 'type'? Name '=', and what follows
 #[derive(Clone, Copy)]
 pub struct EqualsIn<N>(pub Lang, pub N);
 

@@ -297,7 +297,7 @@ impl<A: ReadsProduction<Row> + Copy> ReadsProduction<Row> for TypedDeclaration<A
     }
 }
 
-/// What stands behind `declare` besides variables.
+/// What follows `declare` besides variables.
 #[derive(Clone, Copy)]
 pub struct Declared(pub Context);
 

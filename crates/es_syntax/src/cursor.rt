@@ -16,7 +16,7 @@ pub struct Siblings<'a> {
     pub entries: &'a [Entry],
 }
 
-/// What stands at a place, with its parts.
+/// What is at a place, with its parts.
 #[derive(Clone, Copy)]
 pub struct Item<'a> {
     pub what: What,
@@ -26,7 +26,7 @@ pub struct Item<'a> {
 }
 
 impl<'a> Siblings<'a> {
-    /// The first part, and those behind it.
+    /// The first part, and those after it.
     #[tactic(auto, using(crate::proofs::Rows::held_none, crate::proofs::Rows::held_some, crate::proofs::Rows::parts_none, crate::proofs::Rows::parts_some))]
     pub fn split(&self) -> Option<(Item<'a>, Siblings<'a>)>
         ensures value { (x : List ℕ) (ts : List Tok) → held x ts self.now.entries.now ≡ first_in x ts result }
@@ -136,7 +136,7 @@ impl<'a> Siblings<'a> {
         ensures { (x : List ℕ) (ts : List Tok) → packed (map (value_of x ts) (trees self.now.entries.now)) ≡ held x ts self.now.entries.now }
     {}
 
-    /// The token behind the last of these parts; the given one where there is none.
+    /// The token after the last of these parts; the given one where there is none.
     #[tactic(auto, using(crate::proofs::Places::last_none, crate::proofs::Places::last_some))]
     fn last(&self, to: u32) -> u32
         ensures { (x : List ℕ) (ts : List Tok) → result ≡ last_of to (parts_of x ts self.now.entries.now) }
@@ -150,7 +150,7 @@ impl<'a> Siblings<'a> {
         last
     }
 
-    /// Where the nodes that lean left over these parts stand.
+    /// Where the left-associative nodes over these parts are.
     #[tactic(auto, using(crate::proofs::Places::place_leaned))]
     fn leaning_place(&self, from: u32) -> Option<(u32, u32)>
         ensures { (x : List ℕ) (ts : List Tok) (lean : ALean) → place_of (leant x ts lean from (parts_of x ts self.now.entries.now)) ≡ result }
@@ -166,7 +166,7 @@ impl<'a> Siblings<'a> {
 }
 
 impl<'a> Item<'a> {
-    /// The first token of the node that it is, and the one behind its last; none where it is no node.
+    /// The first token of the node that it is, and the one after its last; none where it is no node.
     #[tactic(auto, using(crate::proofs::Places::place_role, crate::proofs::Places::place_held))]
     pub fn place(&self) -> Option<(u32, u32)>
         ensures { (x : List ℕ) (ts : List Tok) → place_of (valued x ts self.now) ≡ result }

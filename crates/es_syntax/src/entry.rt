@@ -1,13 +1,13 @@
 use es_grammar::NodeKind;
 
-/// The alternatives that lean left: their first part is again such a node, and a row has the whole chain as one entry.
+/// The left-associative alternatives: their first part is again such a node, and a row has the whole chain as one entry.
 #[derive(Clone, Copy, Debug, PartialEq, Eq)]
 pub enum Lean {
     Binary,
     TypedBinary,
 }
 
-/// What stands at a place.
+/// What is at a place.
 #[derive(Clone, Copy)]
 pub enum What {
     /// A token that is kept; its number is the entry's first token.
@@ -18,12 +18,12 @@ pub enum What {
     Role(NodeKind),
     /// The turns of a list, or the parts of a turn or of an optional part.
     Parts,
-    /// A first operand and turns: the nodes that lean left over these. A turn has the parts behind the first one, and the
-    /// token behind the last one of its node.
+    /// A first operand and turns: the left-associative nodes over these. A turn has the parts after the first one, and the
+    /// token after the last one of its node.
     Lean(Lean),
 }
 
-/// What stands there, before its parts: its first token, the token behind its last one, and how many entries its parts take.
+/// What is there, before its parts: its first token, the token after its last one, and how many entries its parts take.
 #[derive(Clone, Copy)]
 pub struct Entry {
     pub what: What,

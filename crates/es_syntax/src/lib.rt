@@ -2,9 +2,9 @@
 //! dropped but the row.
 //!
 //! - `Entry`, `What`, `Lean`: what is kept.
-//! - `Siblings`, `Item`: the parts that stand in a row, and one of them; copies of a slice.
+//! - `Siblings`, `Item`: the parts that are in a row, and one of them; copies of a slice.
 //! - `Writer`: makes a row, as text is written: a node is opened, its parts are written, it is closed. A node may be opened
-//!   before what stands there already, as one that leans left is.
+//!   before what is there already, as a left-associative one is.
 #![tactic(auto)]
 
 mod cursor;

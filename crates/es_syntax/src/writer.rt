@@ -22,7 +22,7 @@ impl Model for Writer {
     ghost view = { λ w. w.entries.items };
 }
 
-/// What stands in the place of a node that is open.
+/// What takes the place of a node that is open.
 const OPEN: Entry = Entry {
     what: What::Parts,
     from: 0,
@@ -106,8 +106,8 @@ impl Writer {
         Ok(())
     }
 
-    /// Closes the node that was opened at this place. More parts than fit 32 bits, and a place where nothing stands, are
-    /// answered as want of memory.
+    /// Closes the node that was opened at this place. Fails with `AllocError` where its parts take more entries than fit 32
+    /// bits, or where nothing is at this place.
     #[tactic(auto, using(crate::proofs::Written::closed_set))]
     pub fn close(&mut self, at: usize, what: What, from: u32, to: u32) -> Result<(), AllocError>
         ensures written { OnOk result (self.new ≡ closed what from to at self.old) }

@@ -256,7 +256,7 @@ impl Model for Token {
 }
 
 impl Token {
-    /// A token. Places and numbers that 32 bits don't hold are answered as want of memory.
+    /// A token. Fails with `AllocError` where a place or a number doesn't fit 32 bits.
     #[inline(always)]
     pub fn new(
         kind: TokenKind,
@@ -296,7 +296,7 @@ impl Token {
         }
     }
 
-    /// Whether a line end stands between the token before and this one. Never so for the first token.
+    /// Whether a line end is between the token before and this one. Never so for the first token.
     #[inline(always)]
     pub fn line_before(&self) -> bool
         ensures { result ≡ self.now.line_before }
@@ -323,7 +323,7 @@ impl Token {
     }
 }
 
-/// A number in 32 bits; a greater one is answered as want of memory.
+/// A number in 32 bits; `AllocError` for a greater one.
 #[inline(always)]
 fn narrowed(number: usize) -> Result<u32, AllocError>
     ensures { IfOk result (λ n. n ≡ number) }
@@ -376,7 +376,7 @@ pub struct Comment {
     pub kind: CommentKind,
     /// Its bytes in the text, delimiters included.
     pub range: Range,
-    /// What stands within its delimiters.
+    /// What is within its delimiters.
     pub text: Text,
 }
 

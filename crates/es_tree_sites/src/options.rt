@@ -23,7 +23,7 @@ fn is_word_label(label: Kind) -> bool
 }
 
 impl TokenizedText<'_> {
-    /// The token of the string literal that stands there.
+    /// The token of the string literal that the item is.
     #[tactic(auto, using(crate::proofs::Looks::src_node, crate::proofs::Looks::src_other))]
     fn literal(&self, item: &Item<'_>) -> Option<Token>
         requires { HasCut self.now }
@@ -230,7 +230,7 @@ impl TokenizedText<'_> {
         Ok(last)
     }
 
-    /// The value of `type`: a string tells, and nothing else.
+    /// The value of `type`, given by a string alone.
     fn of_type(&self, given: Option<Option<Item<'_>>>) -> Result<Attribute, AllocError>
         requires { HasCut self.now }
         ensures { IfOk result (λ a. a ≡ type_in self.now.text.now self.now.tokens.now (option_map (there self.now) given.entry)) }
@@ -286,7 +286,7 @@ impl TokenizedText<'_> {
         }
     }
 
-    /// The value of `with`: an object of plain properties tells.
+    /// The value of `with`, given by an object of plain properties.
     fn of_with(&self, given: Option<Option<Item<'_>>>) -> Result<Attribute, AllocError>
         requires { HasCut self.now }
         ensures { IfOk result (λ a. a ≡ with_in self.now.text.now self.now.tokens.now (option_map (there self.now) given.entry)) }
@@ -332,7 +332,7 @@ impl TokenizedText<'_> {
         }
     }
 
-    /// The attribute of an `import()` with these arguments behind the first: an object of plain properties tells.
+    /// The attribute of an `import()` with these arguments after the first, given by an object of plain properties.
     pub fn options(&self, args: &Siblings<'_>) -> Result<Attribute, AllocError>
         requires { HasCut self.now }
         ensures { IfOk result (λ a. a ≡ options_in self.now.text.now self.now.tokens.now (parts_in self.now args.now)) }

@@ -44,7 +44,7 @@ pub enum Group {
     Firsts,
     /// The second part of each turn.
     Seconds,
-    /// What may stand in each turn, and in one.
+    /// What may be in each turn, and in one.
     Holes,
     Hole,
     /// The cases of a `switch`, and one: a test, and statements.
@@ -55,15 +55,15 @@ pub enum Group {
     Member,
     /// The items of a `module "a"`.
     Body,
-    /// What stands behind `?.`: a node, or a group with one.
+    /// What follows `?.`: a node, or a group with one.
     Optional,
-    /// The same, where it may be arguments behind those of types.
+    /// The same, where it may be arguments after type arguments.
     TypedOptional,
-    /// A name, or arguments behind those of types.
+    /// A name, or arguments after type arguments.
     Arguments,
     /// What a `return` gives; a group of one part is its end alone.
     Returned,
-    /// What stands behind the block of a `try`: `finally` alone, or a parameter, a block and what may follow.
+    /// What follows the block of a `try`: `finally` alone, or a parameter, a block and what may follow.
     Handlers,
     /// A first operand and turns, one at least: the operands.
     Operands(Lean),
@@ -71,7 +71,7 @@ pub enum Group {
     Operand,
 }
 
-/// How the parts behind those of `ways` are taken.
+/// How the parts after those of `ways` are taken.
 pub fn rest(group: Group) -> Way
     ensures { result ≡ rest group }
 {
@@ -160,7 +160,7 @@ impl TokenizedText<'_> {
         &[Skip, Skip, In(First), In(First), In(First), Tree]
     }
 
-    /// How the parts of a node of this alternative are taken, in the order of the text; none behind these.
+    /// How the parts of a node of this alternative are taken, in the order of the text; none after these.
     #[tactic(auto, unfolding(crate::specs::Plan::plan))]
     pub fn plan(&self, label: Kind, parts: &Siblings<'_>) -> &'static [Way]
         ensures { result.now ≡ plan label (parts_in self.now parts.now) }

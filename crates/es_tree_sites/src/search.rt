@@ -34,7 +34,7 @@ fn may_name(what: What) -> bool
     matches!(what, What::Node(label) if names_module(label))
 }
 
-/// How many entries stand before the first that can name a module; none where no entry can.
+/// How many entries precede the first that can name a module; none where no entry can.
 pub fn first_named(entries: &[Entry]) -> Option<usize>
     ensures { MatchOption result (any_may_name entries.now ≡ false) (λ n. Unnamed n entries.now) }
 {

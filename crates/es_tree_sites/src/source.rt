@@ -24,7 +24,7 @@ pub struct TokenizedText<'a> {
     pub tokens: &'a [Token],
 }
 
-/// The first part in a row, and those behind it.
+/// The first part in a row, and those after it.
 #[tactic(auto, using(crate::proofs::RowLemmas::trees_none, crate::proofs::RowLemmas::trees_some))]
 fn split<'t>(row: &Siblings<'t>) -> Option<(Item<'t>, Siblings<'t>)>
     ensures trees { trees row.now.entries.now ≡ first_trees result }
@@ -48,7 +48,7 @@ fn split<'t>(row: &Siblings<'t>) -> Option<(Item<'t>, Siblings<'t>)>
 }
 
 impl TokenizedText<'_> {
-    /// The first of these parts, and those behind it.
+    /// The first of these parts, and those after it.
     pub fn split<'t>(&self, parts: &Siblings<'t>) -> Option<(Item<'t>, Siblings<'t>)>
         ensures value { parts_in self.now parts.now ≡ first_in self.now result }
         ensures entries { Splits parts.now.entries.now result }
@@ -87,7 +87,7 @@ impl TokenizedText<'_> {
         }
     }
 
-    /// The parts of what stands there, where it is a group.
+    /// The parts of the item, where it is a group.
     #[tactic(auto, using(crate::proofs::PartLemmas::group_leaf, crate::proofs::PartLemmas::group_node, crate::proofs::PartLemmas::group_role, crate::proofs::PartLemmas::group_parts, crate::proofs::PartLemmas::group_lean))]
     pub fn group_in<'t>(&self, item: &Item<'t>) -> Siblings<'t>
         ensures value { parts_in self.now result ≡ as_group (part_in self.now item.now) }
@@ -124,7 +124,7 @@ impl TokenizedText<'_> {
         }
     }
 
-    /// The node that stands there, by its alternative, and its parts: no node in another role, and none that leans left.
+    /// The node that the item is, by its alternative, and its parts: no node in another role, no left-associative one.
     #[tactic(auto, using(crate::proofs::PartLemmas::seen_leaf, crate::proofs::PartLemmas::seen_node, crate::proofs::PartLemmas::seen_role, crate::proofs::PartLemmas::seen_parts, crate::proofs::PartLemmas::seen_lean))]
     pub fn as_node<'t>(&self, item: &Item<'t>) -> Option<(Kind, Siblings<'t>)>
         ensures { Seen self.now result (part_in self.now item.now) }
@@ -169,7 +169,7 @@ impl TokenizedText<'_> {
         self.tokens.get(at as usize).copied()
     }
 
-    /// The token that stands there.
+    /// The token that the item is.
     #[tactic(auto, using(crate::proofs::Looks::token_leaf, crate::proofs::Looks::token_node, crate::proofs::Looks::token_role, crate::proofs::Looks::token_parts, crate::proofs::Looks::token_lean))]
     fn token(&self, item: &Item<'_>) -> Option<Token>
         ensures { result ≡ token_in self.now.text.now self.now.tokens.now (part_in self.now item.now) }

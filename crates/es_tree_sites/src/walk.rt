@@ -27,11 +27,11 @@ pub struct Left<'a> {
     pub parts: Siblings<'a>,
     /// How the first of them are taken.
     pub ways: &'static [Way],
-    /// How all behind these are.
+    /// How the others are taken.
     pub rest: Way,
 }
 
-/// The first part, how it is taken, and what is left behind it.
+/// The first part, how it is taken, and what is left after it.
 #[derive(Clone, Copy)]
 pub struct First<'a> {
     pub way: Way,
@@ -75,7 +75,7 @@ impl Left<'_> {
         }
     }
 
-    /// How those behind it are.
+    /// How the others are taken.
     fn others(&self) -> &'static [Way]
         ensures { result.now ≡ other_ways self.now.ways.now }
     {
@@ -132,7 +132,7 @@ impl TokenizedText<'_> {
         }
     }
 
-    /// The parts of what stands there, taken as a tree.
+    /// The parts of the item, taken as a tree.
     #[tactic(auto, using(crate::proofs::WalkLemmas::tree_leaf, crate::proofs::WalkLemmas::tree_node, crate::proofs::WalkLemmas::tree_role, crate::proofs::WalkLemmas::tree_parts, crate::proofs::WalkLemmas::tree_lean))]
     fn in_tree<'t>(&self, item: &Item<'t>) -> Left<'t>
         ensures sites { found (part_in self.now item.now) ≡ named_if true self.now item.now.what item.now.parts ++ left_sites self.now result }
@@ -177,7 +177,7 @@ impl TokenizedText<'_> {
         self.in_tree(item)
     }
 
-    /// The parts of what stands there and is taken so.
+    /// The parts of the item, taken this way.
     #[tactic(auto, using(crate::proofs::PlanLemmas::on_skip, crate::proofs::PlanLemmas::on_tree))]
     fn inside<'t>(&self, way: Way, item: &Item<'t>) -> Left<'t>
         ensures sites { on way (part_in self.now item.now) ≡ names_itself self.now way item.now ++ left_sites self.now result }
@@ -191,7 +191,7 @@ impl TokenizedText<'_> {
         }
     }
 
-    /// What stands there and is taken so names, if it is a node that names a module by itself.
+    /// What the item, taken this way, names, if it is a node that names a module by itself.
     fn name_itself(
         &self,
         found: &mut Items<Site>,
@@ -215,7 +215,7 @@ impl TokenizedText<'_> {
         }
     }
 
-    /// Takes the parts that are left at one level up to the first node that can name a module, and leaves what stands behind
+    /// Takes the parts that are left at one level up to the first node that can name a module, and leaves what follows
     /// it. What has no such node in it is passed over.
     fn take<'t>(
         &self,
@@ -233,7 +233,7 @@ impl TokenizedText<'_> {
         }
     }
 
-    /// Goes down to that node, before which so many entries stand that can name none.
+    /// Goes down to that node: the `named` entries before it can name none.
     fn go_down<'t>(
         &self,
         found: &mut Items<Site>,
@@ -274,7 +274,7 @@ fn is_parts(what: What) -> bool
     matches!(what, What::Parts)
 }
 
-/// What stands there is taken as a tree, where it is one.
+/// Whether an item is taken as a tree, where it is one.
 fn is_tree(way: Way) -> bool
     ensures { result ≡ is_tree way }
 {

@@ -4,3 +4,5 @@ pub mod AnswerLemmas
 pub mod EmbeddedLemmas
 pub mod KeptLemmas
 pub mod AngleLemmas
+pub mod CloserLemmas
+pub mod KeepLemmas

@@ -1,9 +1,9 @@
 //! The reader of the types of TypeScript (`es_grammar::types`): from tokens into a row of entries, or how far one reaches.
 //!
-//! - `part_end(alloc, part, tokens, at, room)`: the number behind the one part that stands from a place on, with at most
-//!   `room` nodes on a path (`Reaches`, `specs/ends/Derived.antt`), or none. Both ways, and it takes no memory.
+//! - `part_end(alloc, part, tokens, at, room)`: the number after the one part that begins at a place, with at most
+//!   `room` nodes on a path (`Reaches`, `specs/ends/Derived.antt`), or none. Sound and complete; allocates nothing.
 //! - `type_parameters_end(alloc, tokens, at)`, `type_arguments_end(alloc, tokens, at)`: the same of these parts.
-//! - `is_type_arguments(alloc, tokens, at, in_extends)`: whether type arguments can be read behind an expression
+//! - `is_type_arguments(alloc, tokens, at, in_extends)`: whether type arguments can be read after an expression
 //!   (`OpensArguments`).
 //! - `angles_of(alloc, tokens)`: where type arguments and type parameters end at each `<`, each token read by the innermost one
 //!   before it (`AreRight`, of `es_lookahead`).

@@ -16,7 +16,7 @@ use es_rules::{
 use es_token::TokenKind;
 use grammar_theory::SyntaxError;
 
-/// ~ '[' Type? ']', and what stands behind it
+/// ~ '[' Type? ']', and what follows it
 #[derive(Clone, Copy)]
 pub struct BracketsIn<N>(pub N);
 
@@ -187,7 +187,7 @@ impl ReadsProduction<TypeRow> for UnionType {
     }
 }
 
-/// Union (~ 'extends' Type '?' Type ':' Type)?, where a conditional type may stand (true).
+/// Union (~ 'extends' Type '?' Type ':' Type)?, where a conditional type is allowed (true).
 #[derive(Clone, Copy)]
 pub struct ConditionalType(pub bool);
 
@@ -284,7 +284,7 @@ impl ReadsProduction<TypeRow> for ConstructorType {
     }
 }
 
-/// Type, where a conditional type may stand (true).
+/// Type, where a conditional type is allowed (true).
 #[derive(Clone, Copy)]
 pub struct AnyType(pub bool);
 

@@ -67,7 +67,7 @@ impl ReadsProduction<TypeRow> for MembersType {
     }
 }
 
-/// ('+' | '-')?, and what stands behind it
+/// ('+' | '-')?, and what follows it
 #[derive(Clone, Copy)]
 pub struct SignIn<N>(pub N);
 

@@ -16,7 +16,7 @@ use es_rules::{
 use es_token::TokenKind;
 use grammar_theory::SyntaxError;
 
-/// Word '?'? ':', and what stands behind it
+/// Word '?'? ':', and what follows it
 #[derive(Clone, Copy)]
 pub struct LabelIn<N>(pub N);
 

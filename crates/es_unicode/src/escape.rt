@@ -11,7 +11,7 @@ pub struct Escape {
     pub size: usize,
 }
 
-/// The size of the escape at the front of the text of a character that may begin a word, 0 where none stands there.
+/// The size of the escape at the front of the text, of a character that may begin a word; 0 where there is none.
 #[tactic(auto, unfolding(crate::specs::Escapes::escaped_start, crate::specs::Escapes::size_if))]
 pub fn escaped_start(text: &[u8]) -> usize
     ensures value { result ≡ escaped_start text.now }
@@ -29,7 +29,7 @@ pub fn escaped_start(text: &[u8]) -> usize
     }
 }
 
-/// The size of the escape at the front of the text of a character that may go on in a word, 0 where none stands there.
+/// The size of the escape at the front of the text, of a character that may continue a word; 0 where there is none.
 #[tactic(auto, unfolding(crate::specs::Escapes::escaped_part, crate::specs::Escapes::size_if))]
 pub fn escaped_part(text: &[u8]) -> usize
     ensures value { result ≡ escaped_part text.now }
@@ -105,7 +105,7 @@ fn escape_at(text: &[u8]) -> Option<Escape>
     }
 }
 
-/// The escape whose `\u` stands before the text.
+/// The escape whose `\u` precedes the text.
 #[tactic(auto, unfolding(crate::specs::Escapes::unicode_escape))]
 fn unicode_escape(text: &[u8]) -> Option<Escape>
     ensures value { result ≡ unicode_escape text.now }
@@ -155,7 +155,7 @@ fn braced_escape(text: &[u8]) -> Option<Escape>
     }
 }
 
-/// `\u{H..}`, behind its first digit.
+/// `\u{H..}`, whose first digit precedes the text.
 #[tactic(auto, unfolding(crate::specs::Escapes::point_escape))]
 fn point_escape(first: u32, text: &[u8]) -> Option<Escape>
     requires { first < 16 }

@@ -1,7 +1,7 @@
 ghost use Rattle.std.specs.Prelude.{◌≡◌, ◌≤◌, ◌+◌, length};
 ghost use Rattle.es_unicode.specs.Wide.{is_blank_of_two, is_space, is_blank_of_three, is_separator, blank_of_two, blank_of_three, wide_blank, wide_line, is_tail, tail_of, two_size, three_size, four_size, wide_by, wide_size};
 
-/// The size of the blank past ASCII at the front of the text, 0 where none stands there.
+/// The size of the blank past ASCII at the front of the text, 0 where there is none.
 #[tactic(auto, unfolding(crate::specs::Wide::wide_blank, crate::specs::Wide::blank_of_two, crate::specs::Wide::blank_of_three))]
 pub fn wide_blank(text: &[u8]) -> usize
     ensures value { result ≡ wide_blank text.now }
@@ -52,7 +52,7 @@ fn is_separator(a: u8, b: u8, c: u8) -> bool
     a == 0xE2 && (b == 0x80 && (c == 0xA8 || c == 0xA9))
 }
 
-/// The size of the line end past ASCII at the front of the text, U+2028 or U+2029, 0 where none stands there.
+/// The size of the line end past ASCII at the front of the text, U+2028 or U+2029; 0 where there is none.
 #[tactic(auto, unfolding(crate::specs::Wide::wide_line))]
 pub fn wide_line(text: &[u8]) -> usize
     ensures value { result ≡ wide_line text.now }
@@ -64,7 +64,7 @@ pub fn wide_line(text: &[u8]) -> usize
     }
 }
 
-/// The size of the character past ASCII at the front of the text that may stand in a word, 0 where none stands there.
+/// The size of the character past ASCII at the front of the text that a word may have, 0 where there is none.
 #[tactic(auto, unfolding(crate::specs::Wide::wide_size, crate::specs::Wide::wide_by))]
 pub fn wide_size(text: &[u8]) -> usize
     ensures value { result ≡ wide_size text.now }

@@ -11,7 +11,7 @@ use Rattle.es_variables.specs.declared.scope_analysis.kinds.Id.{Id}
 use Rattle.es_variables.specs.declared.scope_analysis.kinds.Var.{Var}
 use Rattle.es_variables.specs.declared.scope_analysis.steps.Event.{Event}
 use Rattle.es_variables.specs.declared.scope_analysis.steps.Event.TheVariants as event
-use Rattle.es_variables.specs.scope_analysis.Part.{Events}
+use Rattle.es_variables.specs.scope_analysis.Events.{Events}
 use Rattle.es_variables.specs.scope_analysis.Scope.{shorter, sym_of, id_of, named, declarations, same_id, var, or_else}
 use Rattle.es_variables.specs.declared.scope.Scope.{Scope}
 use Rattle.es_variables.specs.Numbers.{at_in, AreNumbers}

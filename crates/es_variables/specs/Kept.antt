@@ -5,7 +5,7 @@ use Rattle.es_token.specs.declared.token.Token.{Token}
 use Rattle.es_variables.specs.declared.scope_analysis.kinds.ScopeKind.{ScopeKind}
 use Rattle.es_variables.specs.declared.scope_analysis.kinds.Id.{Id}
 use Rattle.es_variables.specs.declared.scope_analysis.kinds.Var.{Var}
-use Rattle.es_variables.specs.scope_analysis.Part.{Events}
+use Rattle.es_variables.specs.scope_analysis.Events.{Events}
 use Rattle.es_variables.specs.scope_analysis.Scope.{sym_of, declarations, named, var, or_else}
 use Rattle.es_variables.specs.declared.ident.Ident.{Ident}
 use Rattle.es_variables.specs.declared.scope.Scope.{Scope}

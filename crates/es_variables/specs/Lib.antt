@@ -1,6 +1,5 @@
 pub mod scope_numbers
 pub mod scope_analysis
-pub mod declarations
 -- numbers by tokens
 pub mod Numbers
 -- names and variables by spellings

@@ -1,8 +1,6 @@
 -- kinds of bindings
 pub mod Kinds
--- the parts of a tree
-pub mod Part
--- where declarations stand in a node
+-- where declarations are in a node
 pub mod Plan
 -- the declarations of a tree
 pub mod Events

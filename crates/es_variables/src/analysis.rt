@@ -143,7 +143,7 @@ fn declared_in(names: &Names<'_>, events: &[Event]) -> Result<Scope, AllocError>
 }
 
 impl Scope {
-    /// What the program declares that stands first in a row, over the tokens of a text, by the numbers of its names.
+    /// What the program that is first in a row declares, over the tokens of a text, by the numbers of its names.
     #[tactic(auto, unfolding(crate::specs::scope_analysis::Scope::declared))]
     pub fn analyze(
         alloc: Global,

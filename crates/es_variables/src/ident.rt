@@ -1,4 +1,4 @@
-//! A name where it stands in a text.
+//! An occurrence of a name in a text.
 
 ghost use Rattle.std.specs.Prelude.{◌≡◌, None, slice_get, slice_range, MatchOption};
 ghost use Rattle.es_lexer.specs.Reads.{ReadsTokens};
@@ -9,7 +9,7 @@ use crate::ids::ScopeIds;
 use base::Range;
 use es_token::Token;
 
-/// A name where it stands in a text: how it is spelled, where it stands, and the number of the scope that declares it.
+/// An occurrence of a name in a text: how it is spelled, where it is, and the number of the scope that declares it.
 #[derive(Clone, Copy, Debug)]
 pub struct Ident<'a> {
     pub sym: &'a str,

@@ -31,7 +31,7 @@ impl Model for ScopeIds {
 }
 
 impl ScopeIds {
-    /// The numbers of the names of the program that stands first in a row.
+    /// The numbers of the names of the program that is first in a row.
     #[tactic(auto, using(crate::proofs::NumberLemmas::numbers_of), unfolding(es_scopes::specs::Numbers::ids))]
     pub fn of(
         alloc: Global,
@@ -67,7 +67,7 @@ impl ScopeIds {
     }
 }
 
-/// The number at a place; 0 behind the last.
+/// The number at a place; 0 after the last.
 fn number(numbers: &[u32], at: usize) -> u32
     ensures { result ≡ at_in numbers.now at }
 {

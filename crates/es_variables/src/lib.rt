@@ -1,8 +1,8 @@
-//! The variables of a program: names with the numbers of their scopes, how each is bound, and what stands around it.
+//! The variables of a program: names with the numbers of their scopes, how each is bound, and what encloses it.
 //!
 //! - `ScopeIds`: the numbers of a program's names, by their tokens.
 //! - `Scope`: what a program declares, with its look-ups.
-//! - `Ident`: a name where it stands in a text, with its number.
+//! - `Ident`: an occurrence of a name in a text, with its number.
 #![tactic(auto)]
 
 mod analysis;

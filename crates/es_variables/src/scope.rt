@@ -65,7 +65,7 @@ impl Scope {
         var_of(&self.vars, id.sym.as_str(), id.ctxt)
     }
 
-    /// The same, of a name where it stands in a text.
+    /// The same, of an occurrence of a name in a text.
     #[tactic(auto, using(crate::proofs::KeptLemmas::var_is))]
     pub fn var_by_ident(&self, ident: &Ident<'_>) -> Option<&Var>
         ensures { (found : List (AnId × AVar)) → Keeps self.now found

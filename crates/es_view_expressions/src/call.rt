@@ -1,4 +1,4 @@
-//! Typed views of calls and members: what stands along a chain, one part at a time.
+//! Typed views of calls and members: the parts along a chain, one at a time.
 //!
 //! - `Call`, `call_at`: chains, `new`, `super`, `import()`, `import.meta`, `new.target`.
 //! - `Post`, `post_at`: a further part of a chain.

@@ -1,5 +1,5 @@
-//! Typed views of expressions, one level at a time: what stands in a row of entries, as the form of expression that it is, with
-//! its parts where they stand.
+//! Typed views of expressions, one level at a time: which form of expression a node in a row of entries is, with
+//! its parts in place.
 //!
 //! - `Primary`, `primary_at`: names, literals, templates, arrays, objects, brackets.
 

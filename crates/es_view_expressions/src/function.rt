@@ -1,4 +1,4 @@
-//! Typed views of functions and classes: which of them a node is, and what stands in it.
+//! Typed views of functions and classes: which of them a node is, and what is in it.
 //!
 //! - `Function`, `function_at`: functions, arrows and classes as expressions.
 //! - `FunctionHead`, `plain_function`, `typed_function`: the name, the parameters and the body of a function.

@@ -1,4 +1,4 @@
-//! Typed views of properties of objects and their keys: which form a node has, with its parts where they stand.
+//! Typed views of properties of objects and their keys: which form a node has, with its parts in place.
 //!
 //! - `Key`, `key_at`: keys of properties and members.
 //! - `Prop`, `prop_at`: properties of objects.

@@ -1,7 +1,7 @@
-//! Typed views of operators: which operator a node is, with its operands where they stand.
+//! Typed views of operators: which operator a node is, with its operands in place.
 //!
 //! - `Operator`, `operator_at`: unary, binary and assignment operators, conditionals, `await`, `yield`, sequences.
-//! - `Chain`, `chain_at`; `Turn`, `turn_at`: operators that lean left in one chain, and what stands behind an operand.
+//! - `Chain`, `chain_at`; `Turn`, `turn_at`: chains of left-associative operators, and what follows an operand.
 
 mod lean;
 mod operator;

@@ -1,7 +1,7 @@
-//! Typed views of patterns: which form a node has, with its parts where they stand.
+//! Typed views of patterns: which form a node has, with its parts in place.
 //!
 //! - `Pat`, `pat_at`: patterns, and targets that are none.
-//! - `Marked`, `marked_at`: patterns that may have `?` or a type behind them.
+//! - `Marked`, `marked_at`: patterns that may be followed by `?` or a type.
 //! - `PatProp`, `pat_prop_at`: properties of object patterns.
 
 mod marked;

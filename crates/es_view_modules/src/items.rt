@@ -1,4 +1,4 @@
-//! Typed views of programs, imports and exports: which form a node has, with its parts where they stand.
+//! Typed views of programs, imports and exports: which form a node has, with its parts as cursors.
 //!
 //! - `Program`, `program_at`: programs.
 //! - `Import`, `import_at`: imports.

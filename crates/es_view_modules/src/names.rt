@@ -1,4 +1,4 @@
-//! Typed views of what imports and exports name: which form a node has, with its parts where they stand.
+//! Typed views of what imports and exports name: which form a node has, with its parts as cursors.
 //!
 //! - `Clause`, `clause_at`: what an import binds.
 //! - `Names`, `names_at`: names that an import binds.

@@ -1,4 +1,4 @@
-//! Typed views of members of classes: which form a node has, with its parts where they stand.
+//! Typed views of members of classes: which form a node has, with its parts in place.
 //!
 //! - `Member`, `member_at`: members of classes.
 

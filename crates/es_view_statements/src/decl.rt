@@ -1,10 +1,10 @@
-//! Typed views of declarations: which form a node has, with its parts where they stand.
+//! Typed views of declarations: which form a node has, with its parts in place.
 //!
 //! - `Decl`, `decl_at`: declarations.
-//! - `Declarable`, `declarable_at`: declarations that may stand behind `declare`.
+//! - `Declarable`, `declarable_at`: declarations that may follow `declare`.
 //! - `Variables`, `variables_at`: variables.
 //! - `Declarator`, `declarator_at`: declarators.
-//! - `Head`, `head_at`: what stands in a `for` before `in` or `of`.
+//! - `Head`, `head_at`: what precedes `in` or `of` in a `for`.
 
 mod decl;
 mod declarable;

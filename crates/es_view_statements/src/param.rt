@@ -1,4 +1,4 @@
-//! Typed views of parameters: which form a node has, with its parts where they stand.
+//! Typed views of parameters: which form a node has, with its parts in place.
 //!
 //! - `Param`, `param_at`: parameters.
 //! - `Params`, `params_at`: lists of parameters.

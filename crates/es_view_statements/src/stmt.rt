@@ -1,6 +1,6 @@
-//! Typed views of statements: which form a node has, with its parts where they stand.
+//! Typed views of statements: which form a node has, with its parts in place.
 //!
-//! - `Stmt`, `stmt_at`: statements that stand by themselves.
+//! - `Stmt`, `stmt_at`: statements other than loops, `switch`, `try` and declarations.
 //! - `Compound`, `compound_at`: loops, `switch` and `try`.
 //! - `Block`, `block_at`: the statements of a block.
 

@@ -1,8 +1,8 @@
-//! Typed views of types of TypeScript: which form a node has, with its parts where they stand.
+//! Typed views of types of TypeScript: which form a node has, with its parts as cursors.
 //!
 //! - `SimpleType`, `simple_at`: words, literals, templates and names.
 //! - `CompoundType`, `compound_at`: types that hold types.
-//! - `FunctionType`, `function_at`: types of functions, and results that tell of a type.
+//! - `FunctionType`, `function_at`: types of functions, and type predicates as results.
 //! - `Element`, `element_at`: elements of tuples.
 
 mod compound;

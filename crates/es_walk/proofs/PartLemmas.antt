@@ -1,5 +1,5 @@
 -- The parts of a row, a group and a path, and what they are.
-use Rattle.std.specs.Prelude.{ℕ, zero, suc, false, List, [], ◌∷◌, Option, Some, None, map}
+use Rattle.std.specs.Prelude.{ℕ, zero, suc, List, [], ◌∷◌, Option, Some, None, map}
 use Rattle.std.proofs.Common.{◌≡◌, refl, sym, ap, ◌∙◌}
 use Rattle.es_grammar.specs.declared.cst.tree.Cst.{Cst, roll-Cst, out-Cst, roll-out-Cst}
 use Rattle.es_grammar.specs.declared.cst.tree.Cst.TheOpen.{Cst-F}
@@ -10,7 +10,7 @@ use Rattle.es_syntax.specs.declared.cursor.Item.{Item}
 use Rattle.es_syntax.specs.Trees.{turn_parts, trees_in, trees}
 use Rattle.es_walk.specs.declared.step.Path.{Path}
 use Rattle.es_walk.specs.declared.step.Path.TheVariants as path
-use Rattle.es_walk.specs.Part.{Part, absent, nil, more, token, node, part, as_group, group, follow, number_in, is_there, packed, as_target}
+use Rattle.es_walk.specs.Part.{Part, absent, nil, more, token, node, part, as_group, group, follow, number_in, packed, as_target}
 use Rattle.es_walk.specs.Walk.{Analysis, part_step, part_of}
 use Rattle.es_walk.specs.Rows.{kept, first_trees, nth, tree_there, group_of, group_there, follow_trees, number_by, number_of, parts_of, first_in, there, there_in}
 use Rattle.es_walk.proofs.RowLemmas.{trees_kept}

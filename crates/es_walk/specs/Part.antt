@@ -1,6 +1,7 @@
 -- What the parts of a kept tree are, and how they are read from the parts of a node; `X` is what a node is.
-use Rattle.std.specs.Prelude.{ℕ, zero, suc, Bool, true, false, List, [], ◌∷◌, Option, Some, None}
+use Rattle.std.specs.Prelude.{ℕ, zero, suc, Bool, true, false, if◌then◌else◌, List, [], ◌∷◌, Option, Some, None}
 use Rattle.es_grammar.specs.declared.rows.NodeKind.{NodeKind}
+use Rattle.es_grammar.specs.declared.rows.NodeKind.TheVariants as l
 use Rattle.es_walk.specs.declared.step.Path.{Path}
 use Rattle.es_walk.specs.declared.step.Path.TheVariants as path
 
@@ -15,6 +16,12 @@ pub data Part (X : Type 0) : Type 0 where
   token : ℕ → Part X
   -- a node: its alternative, its parts, and what it is
   node : NodeKind → Part X → X → Part X
+
+abbrev pub is_plain : NodeKind → Bool
+is_plain l.Binary = false
+is_plain l.TypedBinary = false
+is_plain l.Target = false
+is_plain _ = true
 
 module _ {X : Type 0} where
   -- a part, counted from 0
@@ -61,7 +68,12 @@ module _ {X : Type 0} where
   packed [] = nil
   packed (v ∷ vs) = more v (packed vs)
 
-  -- a node in another role is met as it is
+  -- a node in another role is met as it is, and is of no alternative but that role
   abbrev pub as_target : Part X → Part X
-  as_target (node label p x) = node label p x
+  as_target (node label p x) = node l.Target p x
   as_target _ = absent
+
+  -- the alternative and the parts of a node, but not of a chain or of a node in another role
+  abbrev pub node_in : Part X → Option (NodeKind × Part X)
+  node_in (node label p x) = if is_plain label then Some (label, p) else None
+  node_in _ = None

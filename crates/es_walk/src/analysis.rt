@@ -10,9 +10,9 @@ use es_grammar::NodeKind;
 use es_syntax::{Lean, Siblings};
 use std::alloc::AllocError;
 
-/// An analysis of trees: the steps of the nodes of each alternative, where their parts stand, and what is met at a node
-/// itself. `Here` is what a node is told of the nodes around it, a `Way` leads from it to that of a part, an `Act` is done at
-/// a node, a `Turn` names the steps of a turn of a list, and `Mark` is what is met. A plan has at most 32 steps: so the walk
+/// An analysis of trees: the steps of the nodes of each alternative, the context of their parts, and what is met at a node
+/// itself. `Here` is what a node knows of the nodes around it, a `Way` leads from it to that of a part, an `Act` is done at
+/// a node, a `Turn` names the steps of a turn of a list, and `Mark` is what is met. A plan has at most 32 steps, so the walk
 /// is known to end.
 pub trait Walk {
     type Here: Copy;
@@ -37,16 +37,16 @@ pub trait Walk {
         ensures value { result.now ≡ (rules self.now).turn turn }
         ensures short { length result.now ≤ 32 };
 
-    /// The steps of what stands after the first operand of a node that leans left.
+    /// The steps of what follows the first operand of a left-associative node.
     fn operand(&self, lean: Lean) -> &'static [Step<Self::Way, Self::Act, Self::Turn>]
         ensures value { result.now ≡ (rules self.now).operand lean }
         ensures short { length result.now ≤ 32 };
 
-    /// Where operands stand, if not where their node does.
+    /// The context of operands, if not that of their node.
     fn operands(&self, lean: Lean) -> Option<Self::Here>
         ensures { result ≡ (rules self.now).operands lean };
 
-    /// Where a part stands; nowhere, if it is passed over.
+    /// The context of a part; none, if it is passed over.
     fn leads(&self, here: Self::Here, parts: &Siblings<'_>, way: Self::Way) -> Option<Self::Here>
         ensures { result ≡ (rules self.now).leads here (parts_of (rules self.now) parts.now.entries.now) way };
 

@@ -27,7 +27,7 @@ pub enum Owner<T: Copy> {
 /// What is still to be done over parts in a row.
 #[derive(Clone, Copy)]
 pub enum Todo<T: Copy> {
-    /// The steps from this one on. The first number is how deep further lists may stand in lists.
+    /// The steps from this one on. The first number is how deep further lists may nest.
     Steps(usize, Owner<T>, usize),
     /// All nodes.
     Rest,
@@ -45,7 +45,7 @@ pub struct Frame<'t, H: Copy, T: Copy> {
     pub todo: Todo<T>,
 }
 
-/// Adds what is met in the node that stands there. Memory is the only cause of an error.
+/// Adds what is met in the node that `item` is. Out of memory is the only error.
 pub fn walk<P: Walk>(
     by: &P,
     alloc: Global,
@@ -63,7 +63,7 @@ pub fn walk<P: Walk>(
     Ok(())
 }
 
-/// Adds what is met in the tree that stands first in a row; nothing where there is none.
+/// Adds what is met in the first tree of a row; nothing where there is none.
 pub fn walk_first<P: Walk>(
     by: &P,
     alloc: Global,
@@ -117,7 +117,7 @@ fn stands<H: Copy>(there: Option<H>, here: H) -> H
     }
 }
 
-/// A first operand, and what stands after it.
+/// A first operand, and what follows it.
 fn enter_operands<'t, P: Walk>(
     by: &P,
     stack: &mut Items<Frame<'t, P::Here, P::Turn>>,
@@ -166,7 +166,7 @@ fn enter_node<'t, P: Walk>(
     }
 }
 
-/// Nodes that lean left.
+/// A left-associative chain.
 fn enter_lean<'t, P: Walk>(
     by: &P,
     stack: &mut Items<Frame<'t, P::Here, P::Turn>>,
@@ -196,7 +196,7 @@ fn enter_lean<'t, P: Walk>(
     }
 }
 
-/// What stands there, where it is a node.
+/// The item, where it is a node.
 #[tactic(auto, using(crate::proofs::WalkLemmas::walk_leaf, crate::proofs::WalkLemmas::walk_node, crate::proofs::WalkLemmas::walk_role, crate::proofs::WalkLemmas::walk_parts, crate::proofs::WalkLemmas::walk_lean))]
 fn enter<'t, P: Walk>(
     by: &P,
@@ -216,7 +216,7 @@ fn enter<'t, P: Walk>(
     }
 }
 
-/// What stands there, or stands in it if it is a group.
+/// The item, or what is in it if it is a group.
 #[tactic(auto, using(crate::proofs::WalkLemmas::all_leaf, crate::proofs::WalkLemmas::all_node, crate::proofs::WalkLemmas::all_role, crate::proofs::WalkLemmas::all_parts, crate::proofs::WalkLemmas::all_lean))]
 fn enter_all<'t, P: Walk>(
     by: &P,

@@ -3,9 +3,9 @@
 //! parts".
 //!
 //! - `Walk`: an analysis. Its ghost member `rules` is what it means; the clauses of its methods say that they compute it.
-//! - `Step`, `Path`: what is done at a node, and where its parts stand.
+//! - `Step`, `Path`: what is done at a node, and where its parts are.
 //! - `walk`, `walk_first`: exactly what the rules meet in a tree (`walked`, `specs/Walk.antt`).
-//! - `number_at`, `own_at`, `has_parts`, `has_second`: what `leads` and `act` may ask of the parts of a node.
+//! - `number_at`, `own_at`, `has_parts`, `has_second`, `node_at`: what `leads` and `act` may ask of the parts of a node.
 #![tactic(auto)]
 
 mod analysis;
@@ -17,6 +17,6 @@ mod step;
 
 pub use analysis::Walk;
 pub use levels::{walk, walk_first};
-pub use questions::{has_parts, has_second, number_at, own_at};
+pub use questions::{has_parts, has_second, node_at, number_at, own_at};
 pub use rows::split_trees;
 pub use step::{Path, Step};

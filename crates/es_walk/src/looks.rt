@@ -25,7 +25,7 @@ pub fn part_at<'t, P: Walk>(_by: &P, parts: &Siblings<'t>, path: Path) -> Option
     follow(parts, path)
 }
 
-/// The parts of what stands there, where it is a group.
+/// The parts of the item, where it is a group.
 pub fn inside<'t, P: Walk>(_by: &P, item: &Item<'t>) -> Siblings<'t>
     ensures value { parts_of (P.rules _by.now) result.entries.now ≡ as_group (part_in (P.rules _by.now) item.now) }
     ensures below { length result.entries.now ≤ length item.now.parts.entries.now }

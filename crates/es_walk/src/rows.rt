@@ -45,7 +45,7 @@ pub fn part<'t>(parts: &Siblings<'t>, n: usize) -> Option<Item<'t>>
     }
 }
 
-/// The parts of what stands there, where it is a group.
+/// The parts of the item, where it is a group.
 #[tactic(auto, using(crate::proofs::RowLemmas::group_leaf, crate::proofs::RowLemmas::group_node, crate::proofs::RowLemmas::group_role, crate::proofs::RowLemmas::group_parts, crate::proofs::RowLemmas::group_lean))]
 pub fn group_in<'t>(item: &Item<'t>) -> Siblings<'t>
     ensures trees { trees result.entries.now ≡ group_of (tree_at item.now) }

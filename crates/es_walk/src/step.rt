@@ -1,6 +1,6 @@
 //! The steps of a node.
 
-/// A part: its place among those of the node, after the places of the groups that it stands in. Parts count from 0.
+/// A part: its place among those of the node, after the places of the groups that it is in. Parts count from 0.
 #[derive(Clone, Copy)]
 pub enum Path {
     At(usize),

@@ -58,7 +58,7 @@ pub fn plain_parts(alloc: Global, path: &str) -> Result<Vec<&str>, AllocError>
         .collect(alloc)
 }
 
-/// The URL of a path as seen from the current folder, as `url_from_file_path`.
+/// Like `url_from_file_path`, of a path as seen from the current folder.
 pub fn resolve_path(alloc: Global, path_str: &str, current_dir: &str) -> Result<Url, PathToUrlError>
     ensures { IsExpected to_url.OutOfMemory result (spec.url_of_path false (joined_path current_dir.now path_str.now)) }
 {

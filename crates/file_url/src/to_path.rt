@@ -11,7 +11,7 @@ use std::alloc::{AllocError, Global};
 use std::borrow::CowStr;
 use url::Url;
 
-/// The URL with its path up to the last segment that isn't empty, and a `/` behind it; the URL itself where all
+/// The URL with its path up to the last segment that isn't empty, and a `/` after it; the URL itself where all
 /// segments are empty. A path that can't be a base and has no more than one part becomes `%2F`.
 #[tactic(auto, unfolding(crate::specs::ToPath::url_parent))]
 pub fn url_parent(alloc: Global, url: &Url) -> Result<Url, AllocError>
@@ -64,7 +64,7 @@ fn ends_empty(segments: &[&str]) -> bool
     }
 }
 
-/// The path of a file URL: its percent-decoded path, with a `/` behind a letter and `:` or `|` at the end.
+/// The path of a file URL: its percent-decoded path, with a `/` after a letter and `:` or `|` at the end.
 ///
 /// `Url` exactly where the scheme isn't `file`, there is a host, or the decoded path is no UTF-8.
 pub fn url_to_file_path(alloc: Global, url: &Url) -> Result<String, UrlToFilePathError>

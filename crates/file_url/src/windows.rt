@@ -263,7 +263,7 @@ fn without_empty_front<'a, 'b>(segments: &'a [&'b str]) -> &'a [&'b str]
     &segments[empty_front(segments)..]
 }
 
-// How many empty segments stand at the front.
+// How many empty segments are at the front.
 fn empty_front(segments: &[&str]) -> usize
     ensures value { result ≡ prefix_len (λ segment. spec.is_empty_part segment.now) segments.now }
     ensures within { result ≤ length segments.now }

@@ -5,7 +5,7 @@
 //! - `module_info(parsed)`: what such a source names.
 //! - `rewrite_specifiers` of `specifier_rewriting` is handed on: such a source with other specifiers at some of its sites.
 //!
-//! It stands on the parser of typed trees, so that the graph itself needn't.
+//! It depends on the parser of typed trees, so that the graph itself needn't.
 #![tactic(auto)]
 
 mod parsed;

@@ -18,7 +18,7 @@ use Rattle.graph_entry.specs.declared.entry.Entry.{Entry}
 use Rattle.graph_entry.specs.declared.entry.Entry.TheVariants as entry
 use Rattle.graph_builder.specs.Rules.{targets, edges_of, led_to}
 use Rattle.graph_builder.specs.Reach.{Specifier, Answers, Rules, has, IsFunctional, IsEntry, IsReached, IsReach}
-use Rattle.graph_builder.specs.Final.{Redirects, most_redirects, redirect_of, is_redirect, LeadsTo, fits, fits_phase, LeadsAmiss, refused_edge, IsFinalEdge, misfit, phase_misfit, fit, AreFinalEdges, with_edges, IsFinal, redirect, too_far, with_module, same}
+use Rattle.graph_builder.specs.Final.{Redirects, most_redirects, redirect_of, is_redirect, LeadsTo, fits_by, fits_phase, LeadsAmiss, refused_edge, IsFinalEdge, misfit, phase_misfit, fit, AreFinalEdges, with_edges, IsFinal, redirect, too_far, with_module, same}
 use Rattle.graph_builder.specs.Graph.{members_of, entry_of, redirected, on_from, resolved_over, resolved, module_of, module_at, IsAscending, IsGraph}
 use Rattle.graph_builder.specs.Settling as settling
 use Rattle.graph_builder.specs.Settling.{led, unfit_at, settled_edge, settled, finals_of}
@@ -318,7 +318,7 @@ module _ (rules : Rules) (starts : List Specifier) (answers : Answers) (firsts :
 
       -- it leads to no module, so nothing is amiss
       nothing : ((suits : Module → Bool) → LeadsAmiss rules answers m d suits → ⊥) → IsFinalEdge rules answers m d d
-      nothing none = fit (none (fits d.attribute)) (none (fits_phase d.kind)) refl
+      nothing none = fit (none (fits_by rules.json_without_attribute d.attribute)) (none (fits_phase d.kind)) refl
 
       -- the one that it leads to is such a one
       well : (suits : Module → Bool) (target : Parts) (k : Module) → d.resolution ≡ Ok target
@@ -332,27 +332,34 @@ module _ (rules : Rules) (starts : List Specifier) (answers : Answers) (firsts :
 
       here : (target : Parts) (k : Module) → rules.follows m d ≡ true → d.resolution ≡ Ok target
           → module_at firsts (text_of target) ≡ Some k
-          → (a : Bool) → fits d.attribute k ≡ a → (b : Bool) → fits_phase d.kind k ≡ b
+          → (a : Bool) → fits_by rules.json_without_attribute d.attribute k ≡ a
+          → (b : Bool) → fits_phase d.kind k ≡ b
           → IsFinalEdge rules answers m d
           (settled_edge (if not a then Some ForAttribute else if not b then Some ForPhase else None) d)
-      here target k f r e false u b v = misfit (amiss m d (fits d.attribute) target k f r e u) refl
+      here target k f r e false u b v =
+          misfit (amiss m d (fits_by rules.json_without_attribute d.attribute) target k f r e u) refl
       here target k f r e true u false v =
-          phase_misfit (well (fits d.attribute) target k r e u) (amiss m d (fits_phase d.kind) target k f r e v) refl
+          phase_misfit (well (fits_by rules.json_without_attribute d.attribute) target k r e u)
+          (amiss m d (fits_phase d.kind) target k f r e v) refl
       here target k f r e true u true v =
-          fit (well (fits d.attribute) target k r e u) (well (fits_phase d.kind) target k r e v) refl
+          fit (well (fits_by rules.json_without_attribute d.attribute) target k r e u)
+          (well (fits_phase d.kind) target k r e v) refl
 
       at : (target : Parts) (o : Option Module) → rules.follows m d ≡ true → d.resolution ≡ Ok target
-          → module_at firsts (text_of target) ≡ o → IsFinalEdge rules answers m d (settled_edge (settling.unfit d o) d)
+          → module_at firsts (text_of target) ≡ o
+          → IsFinalEdge rules answers m d (settled_edge (settling.unfit rules.json_without_attribute d o) d)
       at target None f r e =
           nothing (λ suits x.
           let same : x.target ≡ target = ok_same d.resolution x.target target x.resolved r in
           let bad : Some x.found ≡ None =
           sym (there suits x) ∙ ap (λ (t : Parts). module_at firsts (text_of t)) same ∙ e in
           cc)
-      at target (Some k) f r e = here target k f r e (fits d.attribute k) refl (fits_phase d.kind k) refl
+      at target (Some k) f r e =
+          here target k f r e (fits_by rules.json_without_attribute d.attribute k) refl (fits_phase d.kind k) refl
 
       by : (b : Bool) → rules.follows m d ≡ b → (r : Resolved) → d.resolution ≡ r
-          → IsFinalEdge rules answers m d (settled_edge (if b then unfit_at firsts d r else None) d)
+          → IsFinalEdge rules answers m d
+          (settled_edge (if b then unfit_at rules.json_without_attribute firsts d r else None) d)
       by true f (Ok target) r = at target (module_at firsts (text_of target)) f r refl
       by true f (Err e) r = nothing (λ suits x. let bad = sym x.resolved ∙ r in cc)
       by false f r e = nothing (λ suits x. let bad : true ≡ false = sym x.followed ∙ f in cc)
@@ -509,12 +516,13 @@ module _ (rules : Rules) (starts : List Specifier) (few many : Answers)
       → ((target : Parts) → d.resolution ≡ Ok target → rules.follows m d ≡ true
       → IsReached rules starts few (text_of target))
       → IsFinalEdge rules few m d made → IsFinalEdge rules many m d made
-  edge_agrees m d made reached (misfit x is) = misfit (misfit_agrees m d (fits d.attribute) reached x) is
+  edge_agrees m d made reached (misfit x is) =
+      misfit (misfit_agrees m d (fits_by rules.json_without_attribute d.attribute) reached x) is
   edge_agrees m d made reached (phase_misfit none x is) =
-      phase_misfit (λ y. none (misfit_back m d (fits d.attribute) reached y))
+      phase_misfit (λ y. none (misfit_back m d (fits_by rules.json_without_attribute d.attribute) reached y))
       (misfit_agrees m d (fits_phase d.kind) reached x) is
   edge_agrees m d made reached (fit none nothing is) =
-      fit (λ x. none (misfit_back m d (fits d.attribute) reached x))
+      fit (λ x. none (misfit_back m d (fits_by rules.json_without_attribute d.attribute) reached x))
       (λ x. nothing (misfit_back m d (fits_phase d.kind) reached x)) is
 
   edges_agree : (m : Module) (ds made : List Dependency)

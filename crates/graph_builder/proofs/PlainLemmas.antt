@@ -17,7 +17,7 @@ use Rattle.graph_builder.specs.declared.settle.Unfit.{Unfit}
 use Rattle.graph_builder.specs.Rules.{edges_of, is_source}
 use Rattle.graph_builder.specs.Reach.{Specifier, Rules}
 use Rattle.graph_builder.specs.Graph.{entry_of, resolved, module_of, module_at}
-use Rattle.graph_builder.specs.Final.{fits, fits_phase, with_edges}
+use Rattle.graph_builder.specs.Final.{fits_by, fits_phase, with_edges}
 use Rattle.graph_builder.specs.Settling.{is_named, asks_nothing, ask_nothing, is_plain, are_plain, unfit, unfit_at, misfit, settled_edge, settled, finals_of}
 
 left : (a b : Bool) → a && b ≡ true → a ≡ true
@@ -47,12 +47,15 @@ entry_plain (f ∷ firsts) s e h is =
     by false here later i = later i
 
 -- an attribute that names nothing fits a plain module
-fits_plain : (a : Attribute) (m : Module) → is_named a ≡ false → is_plain (entry.Module m) ≡ true → fits a m ≡ true
-fits_plain Absent (Js m) h p = refl
-fits_plain Absent (Json m) h p = absurd cc
-fits_plain Absent (Wasm m) h p = refl
-fits_plain (Named text) m h p = absurd cc
-fits_plain Unknown m h p = refl
+fits_plain : (b : Bool) (a : Attribute) (m : Module) → is_named a ≡ false → is_plain (entry.Module m) ≡ true
+    → fits_by b a m ≡ true
+fits_plain true Absent m h p = refl
+fits_plain false Absent (Js m) h p = refl
+fits_plain false Absent (Json m) h p = absurd cc
+fits_plain false Absent (Wasm m) h p = refl
+fits_plain b (Named text) m h p = absurd cc
+fits_plain true Unknown m h p = refl
+fits_plain false Unknown m h p = refl
 
 -- and a phase that takes no source fits all
 phase_fits : (k : DependencyKind) (m : Module) → is_source k ≡ false → fits_phase k m ≡ true
@@ -62,16 +65,19 @@ phase_fits k (Wasm m) h = refl
 
 module _ (rules : Rules) (firsts : List (Parts × Entry)) (plain : are_plain firsts ≡ true) where
   fits_found : (d : Dependency) (s : Specifier) → is_named d.attribute ≡ false → is_source d.kind ≡ false
-      → unfit d (module_at firsts s) ≡ None
+      → unfit rules.json_without_attribute d (module_at firsts s) ≡ None
   fits_found d s unnamed sourceless =
       by (entry_of firsts (resolved firsts s)) (λ e is. entry_plain firsts (resolved firsts s) e plain is)
     where
       by : (f : Option Entry) → ((e : Entry) → f ≡ Some e → is_plain e ≡ true)
-          → unfit d (option_and_then module_of f) ≡ None
+          → unfit rules.json_without_attribute d (option_and_then module_of f) ≡ None
       by None each = refl
       by (Some (entry.Redirect target)) each = refl
       by (Some (entry.Module m)) each =
-          rw (fits_plain d.attribute m unnamed (each (entry.Module m) refl), phase_fits d.kind m sourceless) refl
+          rw (
+            fits_plain rules.json_without_attribute d.attribute m unnamed (each (entry.Module m) refl),
+            phase_fits d.kind m sourceless,
+          ) refl
       by (Some (entry.Package held)) each = refl
       by (Some entry.External) each = refl
       by (Some (entry.Error e)) each = refl
@@ -80,7 +86,7 @@ module _ (rules : Rules) (firsts : List (Parts × Entry)) (plain : are_plain fir
   no_misfit : (m : Module) (d : Dependency) → asks_nothing d ≡ true → misfit rules firsts m d ≡ None
   no_misfit m d h = by (rules.follows m d) d.resolution
     where
-      by : (b : Bool) (r : Resolved) → (if b then unfit_at firsts d r else None) ≡ None
+      by : (b : Bool) (r : Resolved) → (if b then unfit_at rules.json_without_attribute firsts d r else None) ≡ None
       by true (Ok target) =
           fits_found d (text_of target)
           (off (is_named d.attribute) (left (not (is_named d.attribute)) (not (is_source d.kind)) h))

@@ -76,12 +76,13 @@ resolved_whole entries most i at whole over so_far =
 
 -- ---- an edge, by the module at its end
 
-pub unfit_found : (firsts : List (Parts × Entry)) (d : Dependency) (url target : Parts) (found : Option Module)
+pub unfit_found : (b : Bool) (firsts : List (Parts × Entry)) (d : Dependency) (url target : Parts)
+    (found : Option Module)
     → found ≡ module_at firsts (text_of url) → url ≡ target → d.resolution ≡ Ok target
-    → unfit d found ≡ unfit_at firsts d d.resolution
-unfit_found firsts d url target found at same is =
-    ap (unfit d) (at ∙ ap (λ (u : Parts). module_at firsts (text_of u)) same)
-    ∙ sym (ap (λ (r : Resolved). unfit_at firsts d r) is)
+    → unfit b d found ≡ unfit_at b firsts d d.resolution
+unfit_found b firsts d url target found at same is =
+    ap (unfit b d) (at ∙ ap (λ (u : Parts). module_at firsts (text_of u)) same)
+    ∙ sym (ap (λ (r : Resolved). unfit_at b firsts d r) is)
 
 -- ---- a list beside another
 

@@ -142,7 +142,19 @@ pub record IsKept (rules : Rules) (starts : List Specifier) (events : List Event
 
 -- which edges the options let a graph follow
 abbrev pub following_of : BuildOptions → Following
-following_of options = record { kind = options.kind; skip_dynamic_deps = options.skip_dynamic_deps }
+following_of options = record {
+  kind = options.kind;
+  skip_dynamic_deps = options.skip_dynamic_deps;
+  json_without_attribute = false;
+}
+
+-- the same, where an import without an attribute may be of JSON, or may not
+abbrev pub json_allowed : Bool → Following → Following
+json_allowed is_allowed following = record {
+  kind = following.kind;
+  skip_dynamic_deps = following.skip_dynamic_deps;
+  json_without_attribute = is_allowed;
+}
 
 -- a new builder over a loader: nothing is asked yet, and the loader's events count from now on
 abbrev pub new_building_by : {L W : Type 0} → W → Resolves → List Parts → List ReferrerImports → ℕ → L → LoaderData

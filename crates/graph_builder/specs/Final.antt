@@ -1,7 +1,7 @@
 -- The entry that a graph has for a specifier, against the first entry, which is what its answer means. A redirect that leads
 -- too far is a fault, and so is an edge with an import attribute that the module at its end doesn't ask for, or in a source
 -- phase that it hasn't.
-use Rattle.std.specs.Prelude.{◌≡◌, ℕ, zero, suc, ◌+◌, ◌≤◌, Bool, true, false, not, List, [], ◌∷◌, bytes_eq, codes, Option, Some, None, Ok, Err}
+use Rattle.std.specs.Prelude.{◌≡◌, ℕ, zero, suc, ◌+◌, ◌≤◌, Bool, true, false, not, ◌&&◌, ◌||◌, List, [], ◌∷◌, bytes_eq, codes, Option, Some, None, Ok, Err}
 use Rattle.url.specs.Parts.{Parts}
 use Rattle.es_site.specs.declared.site.Attribute.{Attribute}
 use Rattle.es_site.specs.declared.site.Attribute.TheVariants.{Absent, Named, Unknown}
@@ -79,6 +79,16 @@ fits (Named text) (Json m) = bytes_eq text (codes "json")
 fits (Named text) (Wasm m) = false
 fits Unknown m = true
 
+-- there is no attribute
+abbrev pub is_absent : Attribute → Bool
+is_absent Absent = true
+is_absent (Named text) = false
+is_absent Unknown = false
+
+-- the same, where an import without an attribute may be of JSON, or may not
+abbrev pub fits_by : Bool → Attribute → Module → Bool
+fits_by json_without_attribute attribute m = (json_without_attribute && is_absent attribute) || fits attribute m
+
 -- whether a phase fits a module: a source phase asks for one of WebAssembly (TC39, "Source Phase Imports"; this project's
 -- profile), any other for none
 abbrev pub fits_phase : DependencyKind → Module → Bool
@@ -98,7 +108,7 @@ pub record LeadsAmiss (rules : Rules) (answers : Answers) (m : Module) (d : Depe
 
 -- its attribute doesn't fit the module there
 abbrev pub IsMisfit : Rules → Answers → Module → Dependency → Type 0
-IsMisfit rules answers m d = LeadsAmiss rules answers m d (fits d.attribute)
+IsMisfit rules answers m d = LeadsAmiss rules answers m d (fits_by rules.json_without_attribute d.attribute)
 
 -- its phase doesn't
 abbrev pub IsPhaseMisfit : Rules → Answers → Module → Dependency → Type 0

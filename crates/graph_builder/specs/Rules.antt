@@ -22,10 +22,11 @@ abbrev pub Specifier : Type 0
 Specifier = List ℕ
 
 -- What the theory of a graph is over: which entries an answer for a specifier can have, `None` being where no loader is asked
--- for it; and whether an edge of a module is followed.
+-- for it; whether an edge of a module is followed; and whether one without an attribute may be of JSON.
 pub record Rules : Type 1 where
   pub means : Specifier → Option LoadAnswer → Entry → Type 0
   pub follows : Module → Dependency → Bool
+  pub json_without_attribute : Bool
 
 -- the edges of a module
 abbrev pub edges_of : Module → List Dependency
@@ -84,7 +85,11 @@ Means = Specifier → Option LoadAnswer → Entry → Type 0
 
 -- the answers mean this
 abbrev pub rules_by : Means → Following → Rules
-rules_by means following = record { means = means; follows = λ m. is_followed following (has_types m) }
+rules_by means following = record {
+  means = means;
+  follows = λ m. is_followed following (has_types m);
+  json_without_attribute = following.json_without_attribute;
+}
 
 -- the answers mean what the analysis says
 abbrev pub rules_of : Following → Rules

@@ -23,7 +23,7 @@ use Rattle.graph_builder.specs.Rules.{edges_of, is_source, is_followed}
 use Rattle.graph_builder.specs.Reach.{Specifier, Rules}
 use Rattle.graph_builder.specs.Graph.{GraphData, texts, entry_of, redirected, module_at, IsAscending}
 use Rattle.graph_builder.specs.ByText.{keys_at}
-use Rattle.graph_builder.specs.Final.{most_redirects, fits, fits_phase, refused_edge, with_edges}
+use Rattle.graph_builder.specs.Final.{most_redirects, fits_by, fits_phase, refused_edge, with_edges}
 use Rattle.graph_builder.specs.Inside.{all_done}
 
 -- ---- redirects
@@ -39,26 +39,30 @@ leads_on firsts s = is_some (led (redirected firsts) most_redirects s)
 
 -- ---- edges
 
--- what an edge is refused for by the module that it leads to, if there is one: first its attribute, then its phase
-abbrev pub unfit : Dependency → Option Module → Option Unfit
-unfit d None = None
-unfit d (Some m) =
-    if not (fits d.attribute m) then Some ForAttribute
+-- what an edge is refused for by the module that it leads to, if there is one: first its attribute, where one without may
+-- be of JSON or may not, then its phase
+abbrev pub unfit : Bool → Dependency → Option Module → Option Unfit
+unfit json_without_attribute d None = None
+unfit json_without_attribute d (Some m) =
+    if not (fits_by json_without_attribute d.attribute m) then Some ForAttribute
     else if not (fits_phase d.kind m) then Some ForPhase
     else None
 
 -- the same of the module at the edge's end
-abbrev pub unfit_at : List (Parts × Entry) → Dependency → Resolved → Option Unfit
-unfit_at firsts d (Ok target) = unfit d (module_at firsts (text_of target))
-unfit_at firsts d (Err e) = None
+abbrev pub unfit_at : Bool → List (Parts × Entry) → Dependency → Resolved → Option Unfit
+unfit_at json_without_attribute firsts d (Ok target) =
+    unfit json_without_attribute d (module_at firsts (text_of target))
+unfit_at json_without_attribute firsts d (Err e) = None
 
 -- what an edge of a module is refused for, where it is followed
 abbrev pub misfit : Rules → List (Parts × Entry) → Module → Dependency → Option Unfit
-misfit rules firsts m d = if rules.follows m d then unfit_at firsts d d.resolution else None
+misfit rules firsts m d =
+    if rules.follows m d then unfit_at rules.json_without_attribute firsts d d.resolution else None
 
 -- the same of an edge of a module with types, or without, by the rules of this crate
 abbrev pub misfit_here : Following → Bool → List (Parts × Entry) → Dependency → Option Unfit
-misfit_here following typed firsts d = if is_followed following typed d then unfit_at firsts d d.resolution else None
+misfit_here following typed firsts d =
+    if is_followed following typed d then unfit_at following.json_without_attribute firsts d d.resolution else None
 
 -- ---- entries that nothing is to be judged of
 

@@ -8,7 +8,7 @@ ghost use Rattle.graph_entry.specs.Reading.{CutsSites};
 ghost use Rattle.graph_builder.specs.Own.{own_rules, own_resolves};
 ghost use Rattle.graph_builder.specs.Reach.{answer_to};
 ghost use Rattle.graph_builder.specs.Graph.{texts, different, IsGraph, EachEdgeCuts};
-ghost use Rattle.graph_builder.specs.Builder.{starts, GoesOn, new_building_by, IsOrderly, IsAsking, IsAskedFor, EachAnswered, IsToldLog, HasHistory, IsNotYet, IsUnawaited, IsTooMany, IsComplete, IsCompleteBy, IsFairly, CameInTime};
+ghost use Rattle.graph_builder.specs.Builder.{json_allowed, starts, GoesOn, new_building_by, IsOrderly, IsAsking, IsAskedFor, EachAnswered, IsToldLog, HasHistory, IsNotYet, IsUnawaited, IsTooMany, IsComplete, IsCompleteBy, IsFairly, CameInTime};
 
 use crate::error::BuildError;
 use crate::following::Following;
@@ -56,7 +56,7 @@ impl<L: Loader + Drop, R: Resolver + Drop, M: ModuleAnalyzer + Drop> CustomBuild
         })
     }
 
-    /// The same builder with another resolver. It begins anew: the loader's lists count from now on.
+    /// The same builder with another resolver. It starts again: the loader's lists count from now on.
     pub fn with_resolver<S: Resolver + Drop>(
         self,
         resolver: S,
@@ -71,7 +71,7 @@ impl<L: Loader + Drop, R: Resolver + Drop, M: ModuleAnalyzer + Drop> CustomBuild
         CustomBuild::from_parts(parts, resolver, own.analyzer)
     }
 
-    /// The same builder with another analyser. It begins anew: the loader's lists count from now on.
+    /// The same builder with another analyser. It starts again: the loader's lists count from now on.
     pub fn with_analyzer<N: ModuleAnalyzer + Drop>(
         self,
         analyzer: N,
@@ -84,6 +84,26 @@ impl<L: Loader + Drop, R: Resolver + Drop, M: ModuleAnalyzer + Drop> CustomBuild
         let CustomBuild { inner } = self;
         let (parts, own) = taken_apart(inner.into_parts());
         CustomBuild::from_parts(parts, own.resolver, analyzer)
+    }
+
+    /// The same builder, where an import without an attribute may be of JSON, or may not. It starts again: the loader's lists
+    /// count from now on.
+    pub fn with_json_without_attribute(
+        self,
+        is_allowed: bool,
+    ) -> Result<CustomBuild<L, R, M>, AllocError>
+        ensures { IfOk result (λ b. b.inner ≡ new_building_by
+            (record {
+              following = json_allowed is_allowed self.inner.following.following;
+              resolver = self.inner.following.resolver;
+              analyzer = self.inner.following.analyzer;
+            })
+            (resolve_by (R.resolving self.inner.following.resolver)) self.inner.roots self.inner.imports self.inner.limit
+            self.inner.loader (L.seen self.inner.loader)) }
+    {
+        let CustomBuild { inner } = self;
+        let (parts, own) = taken_apart(inner.into_parts());
+        CustomBuild::from_parts(json_parts(parts, is_allowed), own.resolver, own.analyzer)
     }
 
     /// Asks the loader for what is reached, takes its answers, and gives the graph once nothing is outstanding.
@@ -104,7 +124,7 @@ impl<L: Loader + Drop, R: Resolver + Drop, M: ModuleAnalyzer + Drop> CustomBuild
             (IsAskedFor (own_rules R.resolving M.reads self.old.inner.following) (starts self.old.inner) self.new.inner.asked self.new.inner.log) }
         ensures answered { OnOk result (EachAnswered self.new.inner.asked self.new.inner.log) }
         ensures limit { IfOk result (λ g. length g.entries ≤ self.old.inner.limit) }
-        // The different roots have the first numbers, in the order in which they first stand among the roots.
+        // The different roots have the first numbers, in the order in which they first appear among the roots.
         ensures firsts { IfOk result (λ g. GoesOn (different (texts self.old.inner.roots)) (texts g.numbered)) }
         ensures pending { OnOk result (self.new.inner.pending ≡ self.old.inner.pending) }
         // Why there is no graph.
@@ -179,7 +199,7 @@ impl<L: Loader + Drop, R: Resolver + Drop + Sync, M: ModuleAnalyzer + Drop + Syn
             (IsAskedFor (own_rules R.resolving M.reads self.old.inner.following) (starts self.old.inner) self.new.inner.asked self.new.inner.log) }
         ensures answered { OnOk result (EachAnswered self.new.inner.asked self.new.inner.log) }
         ensures limit { IfOk result (λ g. length g.entries ≤ self.old.inner.limit) }
-        // The different roots have the first numbers, in the order in which they first stand among the roots.
+        // The different roots have the first numbers, in the order in which they first appear among the roots.
         ensures firsts { IfOk result (λ g. GoesOn (different (texts self.old.inner.roots)) (texts g.numbered)) }
         ensures pending { OnOk result (self.new.inner.pending ≡ self.old.inner.pending) }
         // Why there is no graph.
@@ -240,4 +260,40 @@ fn taken_apart<L: Loader + Drop, R: Resolver + Drop, M: ModuleAnalyzer + Drop>(
         limit,
     };
     (parts, own)
+}
+
+/// A builder's parts, where an import without an attribute may be of JSON, or may not.
+fn json_parts<L: Loader + Drop>(parts: Parts<L, Following>, is_allowed: bool) -> Parts<L, Following>
+    ensures loader { result.loader ≡ parts.loader }
+    ensures following { result.following ≡ json_allowed is_allowed parts.following }
+    ensures roots { result.roots ≡ parts.roots }
+    ensures imports { result.imports ≡ parts.imports }
+    ensures limit { result.limit ≡ parts.limit }
+{
+    let Parts {
+        alloc,
+        loader,
+        following,
+        roots,
+        imports,
+        limit,
+    } = parts;
+    let Following {
+        kind,
+        skip_dynamic_deps,
+        json_without_attribute: _,
+    } = following;
+    let following = Following {
+        kind,
+        skip_dynamic_deps,
+        json_without_attribute: is_allowed,
+    };
+    Parts {
+        alloc,
+        loader,
+        following,
+        roots,
+        imports,
+        limit,
+    }
 }

@@ -1,14 +1,15 @@
-//! Which edges of a graph are followed.
+//! What becomes of the edges of a graph: which are followed, and what JSON is imported with.
 ghost use Rattle.std.specs.Prelude.{◌≡◌};
 ghost use Rattle.graph_builder.specs.Rules.{of_kind, is_source, is_dynamic, is_followed};
 
 use graph_entry::{Dependency, DependencyKind, GraphKind};
 
-/// Which edges are followed.
+/// Which edges are followed, and whether an import without an attribute may be of JSON.
 #[derive(Clone, Copy)]
 pub struct Following {
     pub kind: GraphKind,
     pub skip_dynamic_deps: bool,
+    pub json_without_attribute: bool,
 }
 
 impl Following {

@@ -122,7 +122,7 @@ impl ModuleGraph {
     }
 
     /// The number of a specifier that has an entry. With N entries the numbers are those from 0 to N - 1, each once. The
-    /// different roots have the first ones, in the order in which they first stand among the roots.
+    /// different roots have the first ones, in the order in which they first appear among the roots.
     pub fn number(&self, specifier: &Url) -> Option<usize>
         ensures value { result ≡ number_in self.now.numbered (text_of specifier.now) }
         ensures within { IfSome result (λ n. n < length self.now.entries) }
@@ -210,7 +210,7 @@ pub fn module_in<'a>(all: &'a Numbered<Entry>, links: &Links, at: Stop<'_>) -> O
     }
 }
 
-// The same behind redirects.
+// The same after redirects.
 fn module_behind<'a>(all: &'a Numbered<Entry>, links: &Links, at: Stop<'_>) -> Option<&'a Module>
     requires linked { HaveLinks all.now links.now }
     requires stop { IsStop all.now at }

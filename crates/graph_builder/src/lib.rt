@@ -12,7 +12,7 @@
 //!   was asked and answered.
 //! - `ModuleGraph::{roots, referrer_imports, entry, entries}`: look into the graph.
 //!
-//! No reader of the grammar stands below it: `deno_graph` has the builder whose sources the parser reads.
+//! It depends on no reader of the grammar: `deno_graph` has the builder whose sources the parser reads.
 //! `OutOfMemory` is the one answer that no clause ties to a cause.
 #![tactic(auto)]
 

@@ -29,7 +29,7 @@ pub enum Place {
 #[derive(Drop)]
 pub struct Links {
     pub places: Items<Place>,
-    /// The links of one entry stand together, in the order of its edges.
+    /// The links of one entry are adjacent, in the order of its edges.
     pub numbers: Vec<u32>,
 }
 

@@ -18,7 +18,7 @@ pub enum LoaderPoll {
 
 /// A loader of modules. It is asked for specifiers and answers them in whatever order it likes.
 pub trait Loader {
-    /// what happened to it, how often nothing had come, and what it tells beforehand
+    /// what happened to it, how often nothing had come, and what it says beforehand
     ghost seen: { Self → LoaderData };
 
     /// Asks for a specifier.

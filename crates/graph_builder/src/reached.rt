@@ -21,7 +21,7 @@ use std::mem;
 use url::Url;
 
 /// What is known of each reached specifier, by its number. Contracts see a slot for each. Where an entry isn't there yet
-/// another one stands in its place, so that the finished list is this one.
+/// another one is in its place, so that the finished list is this one.
 #[derive(Drop)]
 pub struct Reached {
     entries: Numbered<Entry>,

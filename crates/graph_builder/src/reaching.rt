@@ -362,7 +362,7 @@ impl Reaching {
     }
 }
 
-// The link of an edge that leads nowhere, or isn't followed.
+// The link of an edge that doesn't resolve, or isn't followed.
 fn leave_out(links: &mut Vec<u32>) -> Result<(), AllocError>
     ensures { (keys : List Specifier) (end : Option Specifier) →
         OnOk result (IsOneMore keys end links.old.items links.new.items) }

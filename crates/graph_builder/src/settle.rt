@@ -6,7 +6,7 @@ ghost use Rattle.graph_entry.specs.declared.entry.Entry.{Entry as First};
 ghost use Rattle.graph_builder.specs.declared.settle.Verdict.{Verdict as Judgement};
 ghost use Rattle.graph_entry.specs.Specifier.{text_of};
 ghost use Rattle.graph_builder.specs.Rules.{edges_of, has_types, rules_of, rules_by};
-ghost use Rattle.graph_builder.specs.Final.{fits, fits_phase, refused_edge, with_edges};
+ghost use Rattle.graph_builder.specs.Final.{fits, fits_by, is_absent, fits_phase, refused_edge, with_edges};
 ghost use Rattle.graph_builder.specs.Links.{ends_of, ends_in, end_at, HaveLinks};
 ghost use Rattle.graph_builder.specs.Stops.{IsStop};
 ghost use Rattle.graph_builder.specs.Settling as spec;
@@ -314,7 +314,7 @@ fn misfit(
     ensures { result ≡ spec.misfit_here following typed firsts.now edge.now }
 {
     if following.is_followed(typed, edge) {
-        unfit_at(firsts, links, number, place, edge)
+        unfit_at(following, firsts, links, number, place, edge)
     } else {
         None
     }
@@ -322,6 +322,7 @@ fn misfit(
 
 // What the module that the edge leads to refuses it for.
 fn unfit_at(
+    following: Following,
     firsts: &Numbered<Entry>,
     links: &Links,
     number: usize,
@@ -330,13 +331,13 @@ fn unfit_at(
 ) -> Option<Unfit>
     requires linked { HaveLinks firsts.now links.now }
     requires here { end_at firsts.now number place ≡ edge_target edge.now }
-    ensures { result ≡ spec.unfit_at firsts.now edge.now edge.now.resolution }
+    ensures { result ≡ spec.unfit_at following.json_without_attribute firsts.now edge.now edge.now.resolution }
 {
     match &edge.resolution {
         Ok(target) => {
             let end = end_of(firsts, links, number, place, target);
             match module_in(firsts, links, end) {
-                Some(found) => refusal(edge, found),
+                Some(found) => refusal(following, edge, found),
                 None => None,
             }
         }
@@ -344,10 +345,10 @@ fn unfit_at(
     }
 }
 
-fn refusal(edge: &Dependency, found: &Module) -> Option<Unfit>
-    ensures { result ≡ spec.unfit edge.now (Some found.now) }
+fn refusal(following: Following, edge: &Dependency, found: &Module) -> Option<Unfit>
+    ensures { result ≡ spec.unfit following.json_without_attribute edge.now (Some found.now) }
 {
-    if !fits(&edge.attribute, found) {
+    if !fits_by(following, &edge.attribute, found) {
         Some(Unfit::ForAttribute)
     } else if !fits_phase(edge.kind, found) {
         Some(Unfit::ForPhase)
@@ -362,6 +363,21 @@ fn fits_phase(kind: DependencyKind, found: &Module) -> bool
     match found {
         Module::Js(_) | Module::Json(_) => !is_source(kind),
         Module::Wasm(_) => true,
+    }
+}
+
+fn fits_by(following: Following, attribute: &Attribute, found: &Module) -> bool
+    ensures { result ≡ fits_by following.json_without_attribute attribute.now found.now }
+{
+    (following.json_without_attribute && is_absent(attribute)) || fits(attribute, found)
+}
+
+fn is_absent(attribute: &Attribute) -> bool
+    ensures { result ≡ is_absent attribute.now }
+{
+    match attribute {
+        Attribute::Absent => true,
+        Attribute::Named(_) | Attribute::Unknown => false,
     }
 }
 

@@ -79,7 +79,7 @@ impl UnloggedLoader {
         Ok(started(alloc, firsts, given, arrival))
     }
 
-    /// The same of modules that are numbered, so that no two have one specifier. It takes no memory.
+    /// The same of modules that are numbered, so that no two have one specifier. It allocates nothing.
     pub fn numbered(
         alloc: Global,
         modules: Numbered<LoadAnswer>,

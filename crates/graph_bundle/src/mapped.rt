@@ -60,7 +60,7 @@ fn map_with(
     }
 }
 
-/// What stands at `map`, with its relative URLs read at the base.
+/// What is at `map`, with its relative URLs read at the base.
 fn map_at(alloc: Global, value: &Value, base: &Url) -> Result<Reading<ImportMap>, AllocError>
     ensures { IfOk result (λ r. r ≡ reading.required (map_of base.now) (codes "map") (view value.now)) }
 {

@@ -21,7 +21,7 @@ pub fn required<P: Part>(alloc: Global, value: &Value, key: &str) -> Result<Read
     }
 }
 
-/// The part at a key, or the default where nothing stands there. The key has neither `~` nor `/`.
+/// The part at a key, or the default where nothing is there. The key has neither `~` nor `/`.
 pub fn optional<P: Part>(
     alloc: Global,
     value: &Value,

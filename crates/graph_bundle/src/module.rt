@@ -18,7 +18,7 @@ use serde_json::{Map, Value};
 use std::alloc::{AllocError, Global};
 use url::Url;
 
-/// The module that a value says, behind modules with these specifiers.
+/// The module that a value describes, after modules with these specifiers.
 pub fn module_in(
     alloc: Global,
     seen: &Numbered<LoadAnswer>,

@@ -61,7 +61,7 @@ fn with_room(alloc: Global, count: usize) -> Result<Numbered<LoadAnswer>, AllocE
     Ok(Numbered::from_parts(specifiers, answers))
 }
 
-/// The module that a value says, behind these modules.
+/// The module that a value describes, after these modules.
 fn next_module(
     alloc: Global,
     modules: &Numbered<LoadAnswer>,

@@ -8,3 +8,5 @@ pub mod Calls
 pub mod Rewrite
 pub mod Exports
 pub mod Build
+pub mod Owned
+pub mod Graph

@@ -9,7 +9,7 @@ use crate::told::{NO_MEMORY, fault_of, place_of, status_of};
 use es_site::{Attribute, DependencyKind, Site};
 use std::alloc::{AllocError, Global};
 
-/// A place where a source names another module. Places are bytes from 0, and an end is the byte behind.
+/// A place where a source names another module. Offsets are in bytes from 0, and an end is exclusive.
 #[repr(C)]
 #[derive(Clone, Copy)]
 pub struct SourceSite {
@@ -27,7 +27,7 @@ pub struct SourceSite {
     pub attribute_end: usize,
 }
 
-/// What a call tells beside its buffers.
+/// What a call reports beside its buffers.
 #[repr(C)]
 #[derive(Clone, Copy)]
 pub struct Answer {
@@ -107,7 +107,7 @@ pub fn are_within(sites: usize, sites_room: usize, values: usize, values_room: u
     sites <= sites_room && values <= values_room
 }
 
-/// Records of sites, and their texts, one behind the other.
+/// Records of sites, and their texts, one after the other.
 #[derive(Drop)]
 struct Laid {
     sites: Vec<SourceSite>,
@@ -130,7 +130,7 @@ fn lay_out(alloc: Global, found: &[Site]) -> Result<Laid, AllocError>
     Ok(Laid { sites, values })
 }
 
-// Puts the value and the attribute of a site behind the others, and answers where the value ends.
+// Puts the value and the attribute of a site after the others, and returns where the value ends.
 fn add_texts(values: &mut Vec<u8>, site: &Site) -> Result<usize, AllocError>
     ensures texts { OnOk result (values.new.items ≡ values.old.items ++ texts_of site.now) }
     ensures counted { OnOk result (vec_len values.new ≡ vec_len values.old + length (texts_of site.now)) }

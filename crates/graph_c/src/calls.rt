@@ -8,7 +8,7 @@ use crate::told::{NO_MEMORY, fault_of, place_of, status_of};
 use std::alloc::{AllocError, Global};
 use unread_calls::{Loader, UnreadCall};
 
-/// A call that may load a module. Places are bytes from 0, and an end is the byte behind.
+/// A call that may load a module. Offsets are in bytes from 0, and an end is exclusive.
 #[repr(C)]
 #[derive(Clone, Copy)]
 pub struct SourceCall {
@@ -18,7 +18,7 @@ pub struct SourceCall {
     pub end: usize,
 }
 
-/// What a call tells beside its buffer.
+/// What a call reports beside its buffer.
 #[repr(C)]
 #[derive(Clone, Copy)]
 pub struct CallsAnswer {

@@ -11,7 +11,7 @@ use crate::told::{NO_MEMORY, fault_of, place_of, status_of};
 use base::Text;
 use std::alloc::{AllocError, Global};
 
-/// A name that a source exports, or a module whose names it exports again: where its text stands in the buffer for values.
+/// A name that a source exports, or a module whose names it exports again: where its text is in the buffer for values.
 #[repr(C)]
 #[derive(Clone, Copy)]
 pub struct SourceName {
@@ -19,7 +19,7 @@ pub struct SourceName {
     pub end: usize,
 }
 
-/// What a call tells beside its buffers.
+/// What a call reports beside its buffers.
 #[repr(C)]
 #[derive(Clone, Copy)]
 pub struct ExportsAnswer {
@@ -116,7 +116,7 @@ fn reexports_in(finding: &Finding) -> &[Text]
     }
 }
 
-/// Records of names, and their texts, one behind the other.
+/// Records of names, and their texts, one after the other.
 #[derive(Drop)]
 struct Names {
     names: Vec<SourceName>,
@@ -139,7 +139,7 @@ fn lay_out(alloc: Global, exports: &[Text], reexports: &[Text]) -> Result<Names,
     Ok(laid)
 }
 
-// Puts the records of the names behind the others, and their texts.
+// Puts the records of the names after the others, and their texts.
 fn add_names(laid: &mut Names, names: &[Text]) -> Result<(), AllocError>
     ensures names { OnOk result (laid.new.names.items ≡ laid.old.names.items ++ ranges_from (vec_len laid.old.values) names.now) }
     ensures values { OnOk result (laid.new.values.items ≡ laid.old.values.items ++ joined names.now) }

@@ -127,7 +127,7 @@ fn sites_of_lexed(
     }
 }
 
-// The sites of reference comments, which stand before the first token, and then these.
+// The sites of reference comments, which precede the first token, and then these.
 fn found_behind_references(
     alloc: Global,
     media_type: MediaType,

@@ -1,4 +1,4 @@
-//! The calls of the C library (`include/joravelsu.h` tells them to C).
+//! The calls of the C library (`include/joravelsu.h` declares them for C).
 //!
 //! - `joravelsu_build(bundle)`: the report of a bundle's graph, or the line of a refusal (`Builds`, `specs/Build.antt`).
 //! - `joravelsu_sites(text, media_type)`: where a source names other modules, or why it has no sites (`AnswersSites`,
@@ -8,6 +8,8 @@
 //!   change can't be made, or why it has no sites (`AnswersRewrite`, `specs/Rewrite.antt`).
 //! - `joravelsu_exports(text, media_type, common_js)`: the names that a source exports, and the modules whose names it exports
 //!   again, or why it isn't read (`AnswersExports`, `specs/Exports.antt`).
+//! - `joravelsu_graph_new`, `_poll`, `_wanted`, `_answer`, `_entry`, `_place`, `_free`: a graph whose loads the caller does,
+//!   behind a handle (`specs/Graph.antt`).
 //! - `joravelsu_version()`: the version of the library.
 //!
 //! The first five write into buffers of the caller's, all or nothing, and tell what they must hold. They keep no state. A
@@ -21,6 +23,8 @@ ghost use Rattle.graph_c.specs.Answer.{AnswersSites};
 ghost use Rattle.graph_c.specs.Calls.{AnswersCalls};
 ghost use Rattle.graph_c.specs.Rewrite.{AnswersRewrite};
 ghost use Rattle.graph_c.specs.Exports.{AnswersExports};
+ghost use Rattle.graph_c.specs.Graph.{News, AtPoll, AtWanted, AtAnswer, AtEntry, AtPlace};
+ghost use Rattle.std.specs.Prelude.{None};
 
 mod answer;
 mod build;
@@ -28,6 +32,9 @@ mod calls;
 mod exporting;
 mod exports;
 mod finding;
+mod graph;
+mod handle;
+mod held;
 mod media_types;
 mod rewrite;
 mod room;
@@ -38,7 +45,9 @@ use crate::answer::{Answer, SourceSite, answer_sites};
 use crate::build::build_report;
 use crate::calls::{CallsAnswer, SourceCall, answer_calls};
 use crate::exports::{ExportsAnswer, SourceName, answer_exports};
+use crate::graph::Graph;
 use crate::rewrite::{RewriteAnswer, answer_rewrite};
+use graph_session::{EdgeRecord, EntryRecord, PlaceRecord, Wanted};
 use specifier_edits::records::SourceChange;
 use std::alloc::Global;
 
@@ -133,4 +142,92 @@ pub extern "C" fn joravelsu_exports(
         values,
         answer,
     )
+}
+
+/// Begins a graph of a bundle's roots and settings, whose loads the caller does, in a handle that has none.
+#[unsafe(no_mangle)]
+pub extern "C" fn joravelsu_graph_new(
+    alloc: Global,
+    settings: &[u8],
+    graph: &mut Graph,
+    line: &mut [u8],
+    needed: &mut usize,
+) -> u32
+    ensures { News settings.now graph.old.handle.value graph.new.handle.value line.old line.new needed.new result }
+{
+    graph::begin(alloc, settings, graph, line, needed)
+}
+
+/// Asks for all that is reached, and takes the answers so far.
+#[unsafe(no_mangle)]
+pub extern "C" fn joravelsu_graph_poll(alloc: Global, graph: &mut Graph, seen: &mut usize) -> u32
+    ensures { AtPoll graph.old.handle.value graph.new.handle.value seen.new result }
+{
+    graph::poll(alloc, graph, seen)
+}
+
+/// Reports the first request from a number on that has no answer yet.
+#[unsafe(no_mangle)]
+pub extern "C" fn joravelsu_graph_wanted(
+    alloc: Global,
+    graph: &mut Graph,
+    from: usize,
+    room: &mut [u8],
+    wanted: &mut Wanted,
+) -> u32
+    ensures { AtWanted graph.old.handle.value graph.new.handle.value from room.old room.new wanted.new result }
+{
+    graph::report_wanted(alloc, graph, from, room, wanted)
+}
+
+/// Answers a request.
+#[unsafe(no_mangle)]
+pub extern "C" fn joravelsu_graph_answer(
+    alloc: Global,
+    graph: &mut Graph,
+    number: usize,
+    kind: u32,
+    bytes: &[u8],
+    content_type: &[u8],
+) -> u32
+    ensures { AtAnswer graph.old.handle.value graph.new.handle.value number kind bytes.now content_type.now result }
+{
+    graph::answer(alloc, graph, number, kind, bytes, content_type)
+}
+
+/// Reports the entry with a number, its edges and its texts.
+#[unsafe(no_mangle)]
+pub extern "C" fn joravelsu_graph_entry(
+    alloc: Global,
+    graph: &mut Graph,
+    number: usize,
+    edges: &mut [EdgeRecord],
+    texts: &mut [u8],
+    entry: &mut EntryRecord,
+) -> u32
+    ensures { AtEntry graph.old.handle.value graph.new.handle.value number edges.old edges.new texts.old texts.new entry.new result }
+{
+    graph::report_entry(alloc, graph, number, edges, texts, entry)
+}
+
+/// Reports line and column of a place in the text of an entry's module.
+#[unsafe(no_mangle)]
+pub extern "C" fn joravelsu_graph_place(
+    alloc: Global,
+    graph: &mut Graph,
+    number: usize,
+    place: usize,
+    shown: &mut PlaceRecord,
+) -> u32
+    ensures { AtPlace graph.old.handle.value graph.new.handle.value number place shown.new result }
+{
+    graph::report_place(alloc, graph, number, place, shown)
+}
+
+/// Gives back all that a handle has.
+#[unsafe(no_mangle)]
+pub extern "C" fn joravelsu_graph_free(alloc: Global, graph: &mut Graph)
+    ensures { graph.new.handle.value ≡ None }
+{
+    graph::free(alloc, graph)
 }

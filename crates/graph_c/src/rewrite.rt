@@ -12,7 +12,7 @@ use specifier_edits::ChangeFault;
 use specifier_edits::records::{Rewritten, SourceChange, rewrite_by_records};
 use std::alloc::{AllocError, Global};
 
-/// What a call tells beside its buffer.
+/// What a call reports beside its buffer.
 #[repr(C)]
 #[derive(Clone, Copy)]
 pub struct RewriteAnswer {

@@ -130,7 +130,7 @@ fn media_type_read(alloc: Global, base: &ReadAgain<'_>) -> Result<MediaType, All
     }
 }
 
-// Where a source stands and how it is read.
+// Where a source is and how it is read.
 #[derive(Clone, Copy)]
 struct Source<'a> {
     specifier: &'a Url,

@@ -67,7 +67,7 @@ pub struct Dependency {
     pub kind: DependencyKind,
     pub type_only: bool,
     /// Of a source the string literal in the module's text, with its quotes. Of a WebAssembly module the name in
-    /// its bytes. `None` for what stands in no module.
+    /// its bytes. `None` for what is in no module.
     pub range: Option<Range>,
     /// The literal's value, or the name.
     pub text: Text,

@@ -1,11 +1,11 @@
 //! What one loader answer makes of one specifier: the layer below the graph's builder.
 //!
 //! - `analyse_by(resolver, analyzer, specifier, answer)`: the entry that the answer makes (`AnalysedBy`,
-//!   `specs/Analysed.antt`): a module with its text or bytes and its edges, or why there is none. Both ways, unless memory
+//!   `specs/Analysed.antt`): a module with its text or bytes and its edges, or why there is none. Sound and complete, unless memory
 //!   runs out.
 //! - `analyse_unasked_by(resolver, analyzer, specifier)`: the same where no loader is asked for the specifier: what a
 //!   `data:` URL holds, or the package of an `npm:` or `jsr:` specifier.
-//! - `resolve(text, referrer)`: what a specifier in a source leads to (`resolve`, `specs/Resolution.antt`).
+//! - `resolve(text, referrer)`: what a specifier in a source resolves to (`resolve`, `specs/Resolution.antt`).
 //! - `referred(places)`, `starts_of(roots, places)`: the edges of what places outside a graph import, and where reach
 //!   starts by them (`specs/Referrer.antt`).
 //! - `is_loadable(specifier)`: whether a loader is asked for it (`loadable`, `specs/Specifier.antt`).
@@ -13,8 +13,8 @@
 //!
 //! A specifier is its text. One answer makes at most one entry of it (`analysed_once`, `proofs/Theorems.antt`), whose
 //! edges cut their literals or names from the module (`analysed_cuts`), and whose faults are never that memory ran out
-//! (`analysed_faults`). `docs/RESOLUTION.md` tells the rules in words. What reads a source is a `ModuleAnalyzer`: the parser is
-//! one (`deno_graph::analyzer`), on which this crate doesn't stand.
+//! (`analysed_faults`). `docs/RESOLUTION.md` describes the rules. What reads a source is a `ModuleAnalyzer`: the parser is
+//! one (`deno_graph::analyzer`), on which this crate doesn't depend.
 //! Not promised: the range of a `Syntax` fault, what `Display` and `Debug` write, and when memory runs out.
 #![tactic(auto)]
 

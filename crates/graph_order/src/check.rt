@@ -33,7 +33,7 @@ pub fn check_order(alloc: Global, graph: &ModuleGraph, list: &[Url]) -> Result<b
     has_all(graph, &placed)
 }
 
-// Whether a module may stand behind these.
+// Whether a module may come after these.
 fn may_stand(graph: &ModuleGraph, placed: &Numbered<()>, url: &Url) -> bool
     ensures { (result ≡ true) ↔ IsFree graph.now.entries (keys_at placed.now) (text_of url.now) }
 {

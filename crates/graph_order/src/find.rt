@@ -36,7 +36,7 @@ pub fn order(alloc: Global, graph: &ModuleGraph) -> Result<Order, AllocError>
     told(alloc, graph, names.as_slice(), led.as_slice(), found)
 }
 
-// What was found of the numbers, told of the modules.
+// What was found of the numbers, in terms of the modules.
 fn told(
     alloc: Global,
     graph: &ModuleGraph,

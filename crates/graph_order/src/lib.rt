@@ -1,4 +1,4 @@
-//! An order of a graph's modules in which each stands behind those that it loads before it runs, or a cycle of such edges.
+//! An order of a graph's modules in which each comes after those that it loads before it runs, or a cycle of such edges.
 //!
 //! - `order(graph)`: the least order by bytes, or where there is none the cycle of the walk from the least module that
 //!   leads to one (`IsFound`, `specs/Order.antt`).

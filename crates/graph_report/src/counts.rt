@@ -69,7 +69,7 @@ pub fn sum(a: usize, b: usize) -> Result<usize, AllocError>
     a.checked_add(b).ok_or(AllocError)
 }
 
-// One for an error, and one for each edge that leads nowhere.
+// One for an error, and one for each edge that doesn't resolve.
 fn faults_of(entry: &Entry) -> Result<usize, AllocError>
     ensures { IfOk result (λ n. n ≡ entry_faults entry.now) }
 {

@@ -1,9 +1,9 @@
-//! What is told of a graph, as lines of text.
+//! What is reported of a graph, as lines of text.
 //!
 //! - `report`: its entries and edges (`report_of`, `specs/Report.antt`).
 //! - `summary`: how many entries, edges and faults it has (`summary_of`, `specs/Summary.antt`).
 //! - `order_lines`: the order of its modules, or a cycle of them (`IsOrderText`, `specs/Orders.antt`).
-//! - `add_quoted`: a text as a JSON string, behind another text.
+//! - `add_quoted`: a text as a JSON string, after another text.
 //!
 //! Running out of memory is the one answer without a cause.
 #![tactic(auto)]

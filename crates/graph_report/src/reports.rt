@@ -258,7 +258,7 @@ fn kind_name(kind: DependencyKind, type_only: bool) -> &'static str
     }
 }
 
-/// Writes where a literal stands.
+/// Writes where a literal is.
 pub fn add_range(out: &mut String, range: Option<Range>) -> Result<(), AllocError>
     ensures { OnOk result (Adds out.old out.new (range_word range)) }
 {

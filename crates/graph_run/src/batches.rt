@@ -19,7 +19,7 @@ use graph_bundle::{Bundle, BundleFault, take_bundle};
 use std::alloc::{AllocError, Global};
 use std::thread::Threads;
 
-/// What is due for an input that is not too long, where this is told of its graph. The input is given back once its JSON
+/// What is due for an input that is not too long, where this is reported of its graph. The input is freed once its JSON
 /// is read, before the texts of its modules are made.
 pub fn due_batched<R: Threads + Sync>(
     rt: &R,

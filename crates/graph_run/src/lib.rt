@@ -1,10 +1,10 @@
 //! A whole run: from the bytes of a JSON bundle to the bytes of its graph's report.
 //!
-//! - `run`: by its words, reads a bundle and writes the report of its graph, or writes a made bundle or the counts of its
+//! - `run`: by its arguments, reads a bundle and writes the report of its graph, or writes a made bundle or the counts of its
 //!   graph, and answers a `Status` (`Wrote`, `specs/Run.antt`).
 //! - `due_for`: what is due for the bytes of an input: a status, and the report or the line of a refusal (`IsDue`). It starts
 //!   no thread; `run` has the analyses of a batch run in threads.
-//! - `read_once`, `build_batched`, `due_for_fault`: its steps, for what tells something else of a graph, as `vendor_run`.
+//! - `read_once`, `build_batched`, `due_for_fault`: its steps, for what reports something else of a graph, such as `vendor_run`.
 //! - `report`, `summary`: the text of a graph, its counts: those of `graph_report`.
 //! - `read_all`, `write_all`, `Source`, `Sink` and those in memory: what gives and takes bytes, that of `counted_io`.
 //!

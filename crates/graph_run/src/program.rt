@@ -19,9 +19,9 @@ use made_bundle::make_bundle;
 use std::alloc::Global;
 use std::thread::Threads;
 
-/// Runs the program with the words behind its name. With `build` it reads a bundle from the source
+/// Runs the program with the arguments after its name. With `build` it reads a bundle from the source
 /// and writes the report of its graph, or the line of a refusal; with `order` the order of its modules, or a cycle of them.
-/// With `make N` it writes the bundle of N modules, with `sum N` the counts of its graph. Other words get the usage line.
+/// With `make N` it writes the bundle of N modules, with `sum N` the counts of its graph. Other arguments get the usage line.
 /// Modules are taken in batches of 64, or of as many as `build --batch N` says, and the analyses of a batch run in threads;
 /// what is written is the same whatever the number.
 pub fn run<R: Threads + Sync, S: Source, K: Sink>(

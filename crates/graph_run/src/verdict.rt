@@ -30,7 +30,7 @@ pub struct Due {
     pub text: String,
 }
 
-/// What is told of a graph.
+/// What is reported of a graph.
 #[derive(Clone, Copy)]
 pub enum Telling {
     /// Its report.
@@ -63,7 +63,7 @@ pub fn due_for_fault(alloc: Global, fault: BundleFault) -> Result<Due, AllocErro
     }
 }
 
-/// That the first thing at fault stands at this pointer.
+/// That the first thing at fault is at this pointer.
 fn no_bundle(alloc: Global, at: Text) -> Result<Due, AllocError>
     ensures { IfOk result (λ due. (due.status ≡ Status.BadInput) × (string_bytes due.text ≡ no_bundle_line at)) }
 {

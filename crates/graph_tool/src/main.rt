@@ -1,38 +1,29 @@
-//! The program: `graph_run::run`, or `vendor_run::run_vendor`, over standard input and standard output.
+//! The program: `vendor_run::run_program` over standard input and standard output.
 //!
-//! `main` hands on the words behind the program's name, and ends with the status of the run. `ReadSource` and
-//! `WriteSink` are the trusted edge: that std's reader and writer move the bytes that they say.
+//! `main` hands on the arguments after the program's name, and ends with the status of the run. `ReadSource` and
+//! `WriteSink` of `stream_io` are the trusted edge: that std's reader and writer move the bytes that they say.
 #![tactic(auto)]
 
-mod adapters;
-#[cfg(test)]
-mod tests;
-
-use crate::adapters::{ReadSource, WriteSink};
-use graph_run::{Status, run};
+use graph_run::Status;
 use std::alloc::AllocError;
 use std::env;
 use std::io::{self, ErrorKind};
 use std::process::ExitCode;
-use vendor_run::{folder_of, run_vendor};
+use stream_io::{ReadSource, WriteSink};
+use vendor_run::run_program;
 
 fn main(rt: HostRuntime) -> ExitCode {
-    let words = match env::args(&rt) {
+    let words: Result<Vec<String>, AllocError> = match env::args(&rt) {
         Ok(words) => words.skip(1).collect(rt.alloc()),
         Err(error) if error.kind() == ErrorKind::OutOfMemory => Err(AllocError),
-        // A word is no UTF-8.
-        Err(_) => return ExitCode::from(Status::Usage.code()),
+        // Arguments that aren't UTF-8 are no form, as no arguments are none.
+        Err(_) => Ok(Vec::new(rt.alloc())),
     };
     let Ok(words) = words else {
         return ExitCode::from(Status::NoMemory.code());
     };
-    let words: Vec<String> = words;
     let mut source = ReadSource::new(rt.reader());
     let mut sink = WriteSink::new(io::writer(&rt));
-    let status = match folder_of(rt.alloc(), words.as_slice()) {
-        Ok(Some(base)) => run_vendor(&rt, rt.alloc(), &base, &mut source, &mut sink),
-        Ok(None) => run(&rt, rt.alloc(), words.as_slice(), &mut source, &mut sink),
-        Err(_) => Status::NoMemory,
-    };
+    let status = run_program(&rt, rt.alloc(), words.as_slice(), &mut source, &mut sink);
     ExitCode::from(status.code())
 }

@@ -225,7 +225,7 @@ pub fn renamed<'a>(
     }
 }
 
-/// What stands in place of a literal that leads to a specifier.
+/// What replaces a literal that resolves to a specifier.
 #[tactic(auto, unfolding(graph_entry::specs::Specifier::text_of))]
 pub fn literal_for(
     alloc: Global,

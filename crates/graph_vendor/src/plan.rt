@@ -49,13 +49,13 @@ pub enum VendorCause {
     OtherAnalyser,
     /// An edge of the module has no target.
     RefusedEdge,
-    /// An edge of the module stands in a comment.
+    /// An edge of the module is in a comment.
     ReferenceComment,
-    /// An edge of the module stands in WebAssembly.
+    /// An edge of the module is in WebAssembly.
     WasmImport,
     /// The module's new name is the specifier of an entry, or the new name of a module before it.
     NameTaken,
-    /// The module's new name is no URL or none that a loader is asked for, tells another media type, or leads elsewhere by
+    /// The module's new name is no URL or none that a loader is asked for, has another media type, or leads elsewhere by
     /// one of its new literals.
     NameNotKept,
 }

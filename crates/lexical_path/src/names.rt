@@ -32,7 +32,7 @@ pub fn file_name(path: &str) -> Option<&str>
     Path::new(path).file_name()
 }
 
-/// What stands before the last component. The root and the empty path have none.
+/// What precedes the last component. The root and the empty path have none.
 pub fn parent(path: &str) -> Option<&str>
     ensures { option_copied result ≡ spec.parent path.now }
 {

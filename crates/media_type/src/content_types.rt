@@ -103,7 +103,7 @@ static CONTENT_TYPES: [ContentType; 18] = [
 ];
 
 impl MediaType {
-    /// The media type of content with this header `content-type`, where its specifier's path tells `self`.
+    /// The media type of content with this header `content-type`, where its specifier's path gives `self`.
     /// Capital letters of ASCII count as small ones.
     #[tactic(auto, unfolding(crate::specs::ContentTypes::with_content_type))]
     pub fn with_content_type(self, alloc: Global, header: &str) -> Result<MediaType, AllocError>

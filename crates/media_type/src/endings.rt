@@ -99,7 +99,7 @@ static ENDINGS: [Ending; 20] = [
 ];
 
 impl MediaType {
-    /// The media type that a URL's path tells, capital letters of ASCII counting as small ones.
+    /// The media type that a URL's path gives, capital letters of ASCII counting as small ones.
     pub fn of_path(alloc: Global, path: &str) -> Result<MediaType, AllocError>
         ensures { IfOk result (λ m. m ≡ media_type_of path.now) }
     {

@@ -2,7 +2,7 @@
 //!
 //! - `MediaType::of_path(path)`: the media type of the first ending that the path has (`media_type_of`,
 //!   `specs/Endings.antt`).
-//! - `MediaType::with_content_type(self, header)`: the media type of content with this header, where its path tells
+//! - `MediaType::with_content_type(self, header)`: the media type of content with this header, where its path gives
 //!   `self` (`with_content_type`, `specs/ContentTypes.antt`).
 //! - `MediaType::from_specifier(url)`, `from_specifier_and_headers(url, headers)`: the same of a URL, and of content with
 //!   these headers (`of_specifier`, `by_header`, `specs/Specifiers.antt`).

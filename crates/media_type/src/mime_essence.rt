@@ -6,14 +6,14 @@
 //! - `trim_blanks(text)`, `trim_blanks_end(text)`: the text less the blanks at both ends, and at its end
 //!   (`specs/mime_essence/Blanks.antt`).
 //!
-//! Each answer is a slice of the text that is given. No call takes memory.
+//! Each answer is a slice of the text that is given. No call allocates.
 
 ghost use Rattle.std.specs.Prelude.{◌≡◌, ◌==◌};
 ghost use Rattle.std.specs.List.{before_first};
 ghost use Rattle.media_type.specs.mime_essence.Blanks as blanks;
 ghost use Rattle.media_type.specs.mime_essence.Essence as essence;
 
-/// The MIME type up to its first `;`, behind which its parameters stand, less the blanks at both ends. Its letters
+/// The MIME type up to its first `;`, which its parameters follow, less the blanks at both ends. Its letters
 /// stay as they are.
 pub fn essence_of(mime: &str) -> &str
     ensures { result.now ≡ essence.essence_of mime.now }

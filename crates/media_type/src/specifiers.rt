@@ -9,7 +9,7 @@ use std::collections::BTreeMap;
 use url::Url;
 
 impl MediaType {
-    /// The media type that a specifier tells: the path of a `data:` URL tells nothing.
+    /// The media type that a specifier gives: the path of a `data:` URL gives `Unknown`.
     pub fn from_specifier(alloc: Global, specifier: &Url) -> Result<MediaType, AllocError>
         ensures { IfOk result (λ m. m ≡ spec.of_specifier specifier.now) }
     {
@@ -20,7 +20,7 @@ impl MediaType {
     }
 
     /// The media type of content at a specifier with these headers, whose names are in lower case: what `content-type`
-    /// says, over what the specifier tells.
+    /// says, over what the specifier gives.
     pub fn from_specifier_and_headers(
         alloc: Global,
         specifier: &Url,

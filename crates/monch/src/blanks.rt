@@ -7,7 +7,7 @@ use crate::core_parsers::{ParseError, ParseResult};
 use crate::text::taken;
 use crate::whiles::behind_passing;
 
-// What is left behind the longest front of white space.
+// What is left after the longest prefix of white space.
 fn behind_whitespace(text: &str) -> &str
     ensures { (front : _) × IsPassingFront TestsWhitespace text.now front result.now }
 {

@@ -2,12 +2,12 @@
 //!
 //! - Each `parse` answers an outcome that the combinator's meaning has for the text (`specs/Leaves.antt` for those
 //!   without parts, `specs/Parts.antt` over the meanings of the parts, `specs/Calls.antt` for closures,
-//!   `specs/Handled.antt`). The makers with their rows stand in `README.md`.
+//!   `specs/Handled.antt`). The makers with their rows are in `README.md`.
 //! - What a success leaves is a suffix of the text: the law `leaves_suffix` of the trait, from `monch::core_parsers`.
 //! - `or` to `or7` answer as the first alternative that does not backtrack (`GivesFirst-answers`,
-//!   `proofs/Theorems.antt`), and `OutOfMemory` comes only where memory is taken (the laws `..-in_room`).
+//!   `proofs/Theorems.antt`), and `OutOfMemory` comes only where memory is allocated (the laws `..-in_room`).
 //!
-//! The repetitions stand in `monch::repeats`. Not promised: when memory runs out, and how long a call takes.
+//! The repetitions are in `monch::repeats`. Not promised: when memory runs out, and how long a call takes.
 #![tactic(auto)]
 
 mod alternatives;

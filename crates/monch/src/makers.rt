@@ -222,7 +222,7 @@ pub fn or7<A, B, C, D, E, F, G>(
     }
 }
 
-// ---- parts behind each other
+// ---- parts in sequence
 
 /// The first, then the second on its rest, and both values.
 pub fn pair<A, B>(first: A, second: B) -> Pair<A, B>
@@ -359,7 +359,7 @@ pub fn with_error_context<'a, A>(
     }
 }
 
-/// Reads a whole text with the part, and tells what is wrong with it.
+/// Reads a whole text with the part, and reports what is wrong with it.
 pub fn with_failure_handling<A>(alloc: Global, part: A) -> WithFailureHandling<A>
     ensures { result.part ≡ part }
 {

@@ -6,7 +6,7 @@ ghost use Rattle.monch.specs.Advance.{pair_advances_by, preceded_advances_by, te
 use crate::core_parsers::{Combinator, ParseResult};
 use std::marker::PhantomData;
 
-/// What `pair` answers: two parts, one behind the other, and both values.
+/// What `pair` answers: two parts, one after the other, and both values.
 #[derive(Drop)]
 pub struct Pair<A, B> {
     pub(crate) first: A,
@@ -37,7 +37,7 @@ where
     ghost leaves_less = { λ s can told. pair_advances_by (A.gives s.first) (B.gives s.second) (A.leaves_suffix s.first can.0) (B.leaves_suffix s.second can.1) (A.leaves_less s.first can.0) (B.leaves_less s.second can.1) told };
 }
 
-/// What `preceded` answers: two parts, one behind the other, and the value of the second.
+/// What `preceded` answers: two parts, one after the other, and the value of the second.
 #[derive(Drop)]
 pub struct Preceded<'a, A, B> {
     pub(crate) first: A,
@@ -65,7 +65,7 @@ impl<'a, O: Drop, A: Combinator<'a, Output = O>, B: Combinator<'a>> Combinator<'
     ghost leaves_less = { λ s can told. preceded_advances_by (A.gives s.first) (B.gives s.second) (A.leaves_suffix s.first can.0) (B.leaves_suffix s.second can.1) (A.leaves_less s.first can.0) (B.leaves_less s.second can.1) told };
 }
 
-/// What `terminated` answers: two parts, one behind the other, and the value of the first.
+/// What `terminated` answers: two parts, one after the other, and the value of the first.
 #[derive(Drop)]
 pub struct Terminated<'a, A, B> {
     pub(crate) first: A,
@@ -97,7 +97,7 @@ where
     ghost leaves_less = { λ s can told. terminated_advances_by (A.gives s.first) (B.gives s.second) (A.leaves_suffix s.first can.0) (B.leaves_suffix s.second can.1) (A.leaves_less s.first can.0) (B.leaves_less s.second can.1) told };
 }
 
-/// What `delimited` answers: three parts, one behind the other, and the value of the second.
+/// What `delimited` answers: three parts, one after the other, and the value of the second.
 #[derive(Drop)]
 pub struct Delimited<'a, A, B, C> {
     pub(crate) first: A,

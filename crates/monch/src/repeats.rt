@@ -1,7 +1,7 @@
 //! Combinators that repeat a part.
 //!
-//! - `many_till`, `many0`, `many1`: a list of items, until an end is read or no item stands there (`GivesItems`,
-//!   `specs/repeats/Items.antt`). `separated_list`: the same with a separator behind each item (`GivesSeparated`,
+//! - `many_till`, `many0`, `many1`: a list of items, until an end is read or no item follows (`GivesItems`,
+//!   `specs/repeats/Items.antt`). `separated_list`: the same with a separator after each item (`GivesSeparated`,
 //!   `specs/repeats/Separated.antt`).
 //! - `many_till_fold`, `separated_fold`: what a function makes of the values (`GivesFold`, `specs/repeats/Repeat.antt`).
 //! - `many0_count`, `separated_count`: how many values there are (`GivesCount`), without a list.

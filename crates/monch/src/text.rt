@@ -6,7 +6,7 @@ ghost use Rattle.monch.specs.Leaves.{GivesNextChar};
 
 use crate::core_parsers::{ParseError, ParseResult};
 
-// What stands before the rest in the text.
+// What precedes the rest in the text.
 pub(crate) fn taken<'a>(text: &'a str, rest: &str) -> &'a str
     requires { IsSuffix rest.now text.now }
     ensures { text.now ≡ result.now ++ rest.now }

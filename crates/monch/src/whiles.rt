@@ -4,7 +4,7 @@ ghost use Rattle.monch.specs.Leaves.{GivesSkipWhile, GivesTakeWhile, IsPassingFr
 use crate::core_parsers::{Combinator, ParseResult};
 use crate::text::{split_first_char, taken};
 
-// What is left behind the longest front of characters that pass.
+// What is left after the longest prefix of characters that pass.
 pub(crate) fn behind_passing<'a, F: Fn(char) -> bool>(text: &'a str, passes: &F) -> &'a str
     requires { F.IsAlwaysCallable passes.now }
     ensures { (front : _) × IsPassingFront (F.post passes.now) text.now front result.now }
@@ -68,7 +68,7 @@ impl<'a, F: Fn(char) -> bool> Combinator<'a> for TakeWhile<F> {
     ghost leaves_less = { λ s can none. Prim.absurd none };
 }
 
-// What is left behind the longest front of bytes that pass.
+// What is left after the longest prefix of bytes that pass.
 fn behind_passing_bytes<'a, F: Fn(u8) -> bool>(text: &'a str, passes: &F) -> &'a str
     requires callable { F.IsAlwaysCallable passes.now }
     requires ascii { PassesOnlyAscii (F.post passes.now) }

@@ -8,7 +8,7 @@ use monch::{
 };
 use std::alloc::Global;
 
-/// A value without parts, as it stands in the text.
+/// A value without parts, as it is in the text.
 #[derive(Debug, Drop)]
 pub enum Scalar<'a> {
     Word(&'a str),

@@ -10,7 +10,7 @@ use monch::{
     Combinator, ParseResult, ch, if_not_empty, maybe, or, pair, preceded, substring, take_while,
 };
 
-/// The `/` that may stand in front of a name.
+/// The optional `/` before a name.
 pub fn read_slash(input: &str) -> ParseResult<'_, Option<char>>
     ensures { TellsMaybe (λ (c : ℕ). c) (maybe (steps.read_char 47 input.now) input.now) (seen result) }
 {
@@ -44,14 +44,14 @@ fn scoped_name(input: &str) -> ParseResult<'_, &str>
     substring(pair(scope, behind)).parse(input)
 }
 
-/// What stands behind the `@` of a name.
+/// What follows the `@` of a name.
 pub fn read_requirement(input: &str) -> ParseResult<'_, Option<&str>>
     ensures { TellsMaybe bytes_of (maybe (steps.read_requirement input.now) input.now) (seen result) }
 {
     maybe(preceded(ch('@'), if_not_empty(take_while(is_no_slash)))).parse(input)
 }
 
-/// What stands behind the `/`.
+/// What follows the `/`.
 pub fn read_sub_path(input: &str) -> ParseResult<'_, Option<&str>>
     ensures { TellsMaybe bytes_of (maybe (steps.read_sub_path input.now) input.now) (seen result) }
 {

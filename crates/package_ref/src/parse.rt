@@ -51,7 +51,7 @@ fn behind_scheme(text: &str) -> Option<(PackageKind, &str)>
     }
 }
 
-// What stands before the first `?` or `#`.
+// What precedes the first `?` or `#`.
 fn body_of(rest: &str) -> &str
     ensures { result.now ≡ before_first ends_body rest.now }
 {

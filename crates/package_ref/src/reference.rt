@@ -16,9 +16,9 @@ pub struct PackageRef {
     pub kind: PackageKind,
     /// `chalk` or, with its scope, `@std/path`.
     pub name: Text,
-    /// What stands behind the name's `@`, as `^1.2`. It isn't read as a version.
+    /// What follows the name's `@`, such as `^1.2`. It isn't read as a version.
     pub requirement: Option<Text>,
-    /// What stands behind the `/`, if it isn't empty.
+    /// What follows the `/`, if it isn't empty.
     pub sub_path: Option<Text>,
 }
 

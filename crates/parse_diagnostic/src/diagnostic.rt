@@ -145,7 +145,7 @@ impl fmt::Display for ParseDiagnostic {
 
 impl Error for ParseDiagnostic {}
 
-/// A diagnostic that is kept as the meaning of a text. Contracts see what is told of it: the specifier, the kind and, of a lexical
+/// A diagnostic that is kept as the meaning of a text. Contracts see a part of it: the specifier, the kind and, of a lexical
 /// fault, the range; the range of a `Syntax` fault is left free.
 #[derive(Debug, Drop)]
 pub struct KeptDiagnostic {

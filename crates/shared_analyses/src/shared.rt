@@ -14,7 +14,7 @@ use once_cell::race::{Note, OnceBox};
 use std::alloc::{AllocError, Global};
 use url::Url;
 
-/// What is known of one slot. It takes no memory.
+/// What is known of one slot. It is zero-sized.
 #[derive(Drop)]
 pub struct AnalysisNote {
     note: Note<Kept>,

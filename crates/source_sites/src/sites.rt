@@ -34,7 +34,7 @@ use source_text::SourceText;
 use std::alloc::{AllocError, Global};
 use url::Url;
 
-/// The sites of a text as it stands, which has no byte order mark. Neither are its lines found, nor are its comments kept.
+/// The sites of a text as it is, which has no byte order mark. Its lines aren't found, and its comments aren't kept.
 pub fn read_sites(
     alloc: Global,
     specifier: &Url,
@@ -188,7 +188,7 @@ fn either_sites(
     }
 }
 
-// As a script what is no module, as was noticed at this token: where it is none either, that is told.
+// Reads as a script what isn't a module, as was noticed at this token; if it isn't a script either, that token is at fault.
 fn script_sites(
     alloc: Global,
     lang: Lang,

@@ -79,7 +79,7 @@ impl SourceTextInfo {
         }
     }
 
-    /// The place behind the last character of a line, counted from 0: before its U+000A, and before a U+000D right
+    /// The offset after the last character of a line, counted from 0: before its U+000A, and before a U+000D directly
     /// before that. The last line ends with the text.
     pub fn line_end(&self, line: usize) -> usize
         requires { line ≤ last_line self.now }
@@ -122,7 +122,7 @@ impl SourceTextInfo {
     }
 }
 
-// The place before a U+000D that stands right before the line end here.
+// The offset of a U+000D directly before the line end at `stop`, else `stop`.
 fn before_return(text: &str, stop: usize) -> usize
     requires { stop ≤ length text.now }
     ensures { result ≡ spec.before_return text.now stop }

@@ -1,11 +1,11 @@
 //! The text of a source, and its lines and columns.
 //!
 //! - `SourceText`: a text that shares its bytes with its copies and with whoever gave them: `from_utf8(bytes)` checks
-//!   them where they stand, and `without_mark` leaves one byte order mark out of the view. No call copies the text but
+//!   them in place, and `without_mark` leaves one byte order mark out of the view. No call copies the text but
 //!   `from_str`.
 //! - `SourceTextInfo::line_index(pos)`: the line of a place: the number of line ends before it (`line_index`,
 //!   `specs/Lines.antt`).
-//! - `line_start(line)`, `line_end(line)`, `line_text(line)`: where a line starts and ends, and what stands between
+//! - `line_start(line)`, `line_end(line)`, `line_text(line)`: where a line starts and ends, and the text between
 //!   (`IsStart`, `IsEnd`, `IsLineText`).
 //! - `range_text(range)`: the text of a range.
 //! - `line_and_column_display(pos)`: line and column as people count them (`IsDisplay`).

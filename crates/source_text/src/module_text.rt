@@ -2,7 +2,7 @@
 //!
 //! - `without_mark(text)`, `strip_bom(text)`: the text less one mark (`without_mark`, `specs/module_text/ModuleText.antt`).
 //!
-//! No call takes memory.
+//! No call allocates.
 
 ghost use Rattle.std.specs.Prelude.{◌≡◌, string_bytes};
 ghost use Rattle.lexical_path.specs.Specifiers.{begins};
@@ -18,7 +18,7 @@ pub fn without_mark(text: &str) -> &str
     }
 }
 
-/// Whether a byte order mark stands at the front.
+/// Whether the text begins with a byte order mark.
 pub fn has_mark(text: &str) -> bool
     ensures { result ≡ begins text.now texts.mark }
 {

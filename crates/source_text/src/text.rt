@@ -15,7 +15,7 @@ use std::{fmt, str};
 #[derive(Drop)]
 pub struct SourceText {
     bytes: SharedBytes,
-    // The text is what stands from here on.
+    // The text is the bytes from this offset on.
     start: usize,
 }
 
@@ -71,7 +71,7 @@ impl SourceText {
         }
     }
 
-    // The text behind so many bytes.
+    // The text after `count` bytes.
     fn behind(self, count: usize) -> SourceText
         requires { IsCharBoundary self count }
         ensures { result ≡ drop count self }

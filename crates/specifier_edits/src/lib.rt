@@ -2,7 +2,7 @@
 //!
 //! - `rewrite_sites(text, sites, changes)`: the text with new string literals at these of its sites (`edits`,
 //!   `specs/Edits.antt`), each change the number of a site, from 0, and its new specifier. It is read as the old tokens and
-//!   comments, moved (`ReadsMoved`); where a site moved to, a literal of its new specifier stands (`CutsSpecifiers`); its
+//!   comments, moved (`ReadsMoved`); where a site moved to, there is a literal of its new specifier (`CutsSpecifiers`); its
 //!   tree is the old one, moved, with the new literals, and so are its sites, with their attributes, while those in comments
 //!   stay (`KeepsSites`).
 //! - `name_literals(sites, changes)`: whether the numbers ascend, each that of a literal (`NamesLiterals`).

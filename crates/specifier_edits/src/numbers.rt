@@ -55,7 +55,7 @@ fn is_literal(kind: DependencyKind) -> bool
 pub enum ChangeFault {
     /// No site has this number.
     NoSite,
-    /// The site stands in a comment, so it is no literal.
+    /// The site is in a comment, so it is no literal.
     NoLiteral,
     /// The number isn't above that of the change before.
     NoOrder,

@@ -30,7 +30,7 @@ pub fn rewrite_specifiers(
     // All other tokens keep their texts.
     ensures texts { IfOk result (λ new.
         KeepsTexts source.now.text (edits (parsed_sites source.now) changes.now) (string_bytes new)) }
-    // Where a site moved to, a literal of its new specifier stands.
+    // Where a site moved to, there is a literal of its new specifier.
     ensures cuts { IfOk result (λ new. CutsSpecifiers (parsed_sites source.now) changes.now (string_bytes new)) }
     // Wherever the old one is read as a tree, it is read as this tree, moved, with the new literals; so its sites are the
     // old ones, moved. Those in comments stay.

@@ -124,7 +124,7 @@ impl FileMap {
         ensures bytes { result ≡ file_at self.old path.now }
         ensures files { self.new ≡ spec.without_file self.old path.now }
     {
-        // The count is not needed, but tells a proof that the paths ascend.
+        // The count is not needed, but gives the proof the fact that the paths ascend.
         let _count = self.entries.len();
         self.entries.remove(path)
     }

@@ -48,7 +48,7 @@ impl Model for InMemorySys {
 }
 
 impl InMemorySys {
-    /// A system with these files and folders, and all the folders that they stand in. Paths are joined to the current
+    /// A system with these files and folders, and all the folders that they are in. Paths are joined to the current
     /// folder. Of files with equal paths the first counts, and a file whose path is that of a folder isn't kept.
     /// The random bytes are given in turn, over and over; without any, 0 is given. The calls whose numbers are
     /// listed fail.

@@ -19,7 +19,7 @@ pub enum Place {
     Free,
     /// Nothing, and the folder isn't there either.
     Missing,
-    /// A file stands where the path needs a folder.
+    /// A file is where the path needs a folder.
     Blocked,
 }
 
@@ -98,7 +98,7 @@ pub fn is_folder(made: &[Text], path: &str) -> bool
     path == "/" || has_at_or_below(made, path)
 }
 
-/// The folder that a path stands in.
+/// The folder that a path is in.
 pub fn parent_of(path: &str) -> &str
     ensures { result.now ≡ paths.parent_of path.now }
 {
@@ -108,7 +108,7 @@ pub fn parent_of(path: &str) -> &str
     }
 }
 
-// A file stands at a front of the path that ends before a `/`.
+// Whether a file is at a prefix of the path that ends before a `/`.
 fn is_blocked(files: &SharedFiles, path: &str) -> bool
     ensures { result ≡ spec.is_blocked files.now path.now }
 {

@@ -1,4 +1,4 @@
-//! The calls of a system. Each trait's clauses say what its calls do to the count of faults and to what is told.
+//! The calls of a system. Each trait's clauses say what its calls do to the count of `faults` and to `told`.
 ghost use Rattle.std.specs.Prelude.{◌≡◌, ℕ, Option, IfOk, string_bytes};
 ghost use Rattle.sys_traits.specs.State.{Told, WhereTold, refusal_of, shortage_of, CountsFault};
 ghost use Rattle.sys_traits.specs.Calls.{Canonicalized, FolderCreated, LookedUp, Opened, Written, Removed, Renamed, Drawn, Slept, answered_path, answered_truth, answered_byte};
@@ -12,7 +12,7 @@ pub trait SysState {
     /// how many calls were refused, other than for memory
     ghost faults: { Self → ℕ };
 
-    /// the current folder, the files and the log, where that is told
+    /// the current folder, the files and the log, where a system reports them
     ghost told: { Self → Option Told };
 }
 
@@ -48,7 +48,7 @@ pub trait FsOpen: SysState {
             (Self.told self.old) (Self.told self.new) }
         ensures named { IfOk result (λ file. file.path ≡ path.now) };
 
-    /// Writes the bytes and closes the file. On a failure some of them may stand.
+    /// Writes the bytes and closes the file. On a failure some of them may have been written.
     fn fs_write_all(&mut self, file: SysFile, bytes: &[u8]) -> Result<(), SysError>
         ensures counts { CountsFault (refusal_of result) (Self.faults self.old) (Self.faults self.new) }
         ensures tells { WhereTold (Written file.path bytes.now (refusal_of result))

@@ -66,7 +66,7 @@ const ROWS: &[(MediaType, &str, &str)] = &[
         "with (a) b; export { c };",
         "SyntaxError: Syntax",
     ),
-    // These words are the names of properties, or stand in a namespace.
+    // These words are the names of properties, or are in a namespace.
     (MediaType::JavaScript, "a.export\n{ }", "script"),
     (
         MediaType::JavaScript,

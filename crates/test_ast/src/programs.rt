@@ -7,7 +7,7 @@ use deno_ast::{
 };
 use std::alloc::{AllocError, Global};
 
-/// A media type, a text, and what is told of its program: the line behind `#!`, its items (`d` for an import or an
+/// A media type, a text, and what is reported of its program: the rest of the `#!` line, its items (`d` for an import or an
 /// export, `s` for a statement), its span, whether it counts as a script, the number of its comments, and the leading
 /// ones.
 const ROWS: &[(MediaType, &str, &str)] = &[

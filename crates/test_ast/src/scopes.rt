@@ -4,7 +4,7 @@ use crate::parsed::params;
 use deno_ast::{MediaType, ParseFault, ParseParams, ParsedSource, Scope, parse_program};
 use std::alloc::{AllocError, Global};
 
-/// A text, and what is told of it: whether scopes were analysed before and afterwards, the numbers of its outermost scope
+/// A text, and what is reported of it: whether scopes were analysed before and afterwards, the numbers of its outermost scope
 /// and of names that none declares, and each declaration of `a`.
 const ROWS: &[(&str, &str)] = &[
     ("const a = 1;", "false true 1 0 a:1=Const"),

@@ -103,7 +103,7 @@ fn modules_by_callers(rt: HostRuntime) {
     );
     let line = parsed(&rt, alloc, "file:///a.ts", none, &Blind);
     assert_eq!(rt; line.as_str(), "TypeScript 16");
-    // The path of a `data:` URL tells nothing.
+    // The path of a `data:` URL gives no media type.
     let line = parsed(&rt, alloc, "data:,import/x.ts", none, &ParserModuleAnalyzer);
     assert_eq!(rt; line.as_str(), "UnsupportedMediaType");
 }

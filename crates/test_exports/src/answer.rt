@@ -10,7 +10,7 @@ use source_text::SourceText;
 use std::alloc::{AllocError, Global};
 use test_rows::Row;
 
-/// The names that the source of a row exports, and the modules whose names it exports again, each behind a blank.
+/// The names that the source of a row exports, and the modules whose names it re-exports, each after a blank.
 pub fn answer(alloc: Global, row: &Row) -> Result<String, AllocError> {
     match program_of(alloc, row)? {
         Some(program) => {

@@ -27,7 +27,7 @@ const MADE: &str =
 const USAGE: &str =
     "64 usage: graph_tool build [--batch N] | make N | sum N | vendor BASE | order\n";
 
-/// A word, the number behind it, and the status with what is written.
+/// An argument, the one after it, and the status with what is written.
 const FORMS: &[(&str, &str, &str)] = &[
     ("make", "2", MADE),
     ("make", "0", USAGE),
@@ -48,7 +48,7 @@ const FORMS: &[(&str, &str, &str)] = &[
     ("Make", "2", USAGE),
 ];
 
-/// A number behind `build --batch`, and the status with what is written.
+/// A number after `build --batch`, and the status with what is written.
 const BATCHES: &[(&str, &str)] = &[
     ("1", REPORT),
     ("2", REPORT),

@@ -7,7 +7,7 @@ use std::alloc::{AllocError, Global};
 use test_rows::Row;
 use url::Url;
 
-/// Where the row's specifier leads by its map, or why it leads nowhere.
+/// What the row's specifier resolves to by its map, or why it doesn't resolve.
 pub fn answer(alloc: Global, row: &Row) -> Result<String, AllocError> {
     let Ok(base) = Url::parse(alloc, row.at(2)) else {
         return String::from_str(alloc, "the base is no URL");

@@ -85,7 +85,7 @@ fn operator_kind(tokens: &[Token], it: &Operator<'_>) -> Option<&'static str> {
     }
 }
 
-/// Behind an operand: `as` or `satisfies` with what it asserts in a group, or an operand alone.
+/// After an operand: `as` or `satisfies` with what it asserts in a group, or an operand alone.
 fn turn_kind(tokens: &[Token], turn: &Siblings<'_>) -> Option<&'static str> {
     match turn.group_at(1).part(0) {
         Some(asserted) => match asserted.token() {
@@ -96,7 +96,7 @@ fn turn_kind(tokens: &[Token], turn: &Siblings<'_>) -> Option<&'static str> {
     }
 }
 
-/// What stands behind all else in a chain of operators.
+/// What comes last in a chain of operators.
 fn last_turn<'a>(chain: &Chain<'a>) -> Item<'a> {
     last_in(&chain.others).last.unwrap_or(chain.turn)
 }
@@ -110,7 +110,7 @@ fn joined_kind(tokens: &[Token], lean: Lean, turn: &Item<'_>) -> Option<&'static
     }
 }
 
-/// What the last operator of a chain stands behind: the nodes before it, or the first operand.
+/// What precedes the last operator of a chain: the nodes before it, or the first operand.
 pub fn before_last(tokens: &[Token], chain: &Chain<'_>) -> Option<Seen> {
     match last_in(&chain.others) {
         Last { last: None, .. } => expression(tokens, &chain.first),
@@ -142,7 +142,7 @@ fn call_kind(it: &Call<'_>) -> Option<&'static str> {
     }
 }
 
-/// What stands behind all else in a chain.
+/// What comes last in a chain.
 pub fn last_post<'a>(first: &Item<'a>, others: &Siblings<'a>) -> Option<Item<'a>> {
     match last_in(others).last {
         Some(turn) => turn.group().part(0),
@@ -150,7 +150,7 @@ pub fn last_post<'a>(first: &Item<'a>, others: &Siblings<'a>) -> Option<Item<'a>
     }
 }
 
-/// What stands before that, if anything does but the base.
+/// What precedes that, if anything but the base does.
 pub fn post_before<'a>(first: &Item<'a>, others: &Siblings<'a>) -> Option<Item<'a>> {
     match last_in(others) {
         Last {
@@ -178,7 +178,7 @@ pub fn post_kind(it: &Item<'_>) -> Option<&'static str> {
     }
 }
 
-/// Behind `?.` stands an index, or a group: of a name, or of a call.
+/// After `?.` comes an index, or a group: of a name, or of a call.
 fn optional_kind(behind: &Item<'_>) -> Option<&'static str> {
     match behind.place() {
         Some(_) => Some("Index"),

@@ -11,7 +11,7 @@ use es_view_expressions::expr::{Primary, primary_at};
 use es_view_expressions::member::{Prop, prop_at};
 use es_view_expressions::operator::{Operator, chain_at, operator_at};
 
-/// Of a call the first argument, of an array the first element, of a member or a test with `in` what stands first.
+/// Of a call the first argument, of an array the first element, of a member or a test with `in` what comes first.
 pub fn in_expression(letter: &str, tokens: &[Token], it: &Item<'_>) -> Option<Seen> {
     if letter == "e" {
         return unwrapped(tokens, it);
@@ -37,7 +37,7 @@ pub fn in_expression(letter: &str, tokens: &[Token], it: &Item<'_>) -> Option<Se
     }
 }
 
-/// What stands between parentheses, or the expression itself.
+/// What is between parentheses, or the expression itself.
 fn unwrapped(tokens: &[Token], it: &Item<'_>) -> Option<Seen> {
     match primary_at(it) {
         Some(Primary::Paren(inner)) => expression(tokens, &inner),
@@ -68,7 +68,7 @@ fn piece_of(tokens: &[Token], token: u32) -> Option<Seen> {
     Some(told("TplElement", span))
 }
 
-/// The first element of an array that begins at this token: where none stands, a hole behind the bracket.
+/// The first element of an array that begins at this token: where there is none, a hole after the bracket.
 fn first_element(tokens: &[Token], from: u32, elems: &Siblings<'_>) -> Option<Seen> {
     match elems.part(0)?.group().group_at(0).part(0) {
         Some(element) => expression(tokens, &element),
@@ -118,7 +118,7 @@ fn property(tokens: &[Token], it: &Item<'_>) -> Option<Seen> {
     told_at(kind, tokens, it)
 }
 
-/// The first argument where a call stands last, the object where a member does.
+/// The first argument where a call comes last, the object where a member does.
 fn in_chain(
     tokens: &[Token],
     base: &Item<'_>,

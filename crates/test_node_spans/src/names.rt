@@ -1,4 +1,4 @@
-//! Imports and exports, and what stands in them.
+//! Imports and exports, and what is in them.
 
 use crate::spans::{Seen, ends, first_in, span, token_span, told, told_at};
 use es_ast::ImportPhase;
@@ -50,7 +50,7 @@ pub fn in_import(letter: &str, tokens: &[Token], it: &Item<'_>, view: &Import<'_
     }
 }
 
-/// The literal behind `from`, or the attributes or the first of them.
+/// The literal after `from`, or the attributes or the first of them.
 fn in_source(
     letter: &str,
     tokens: &[Token],
@@ -99,7 +99,7 @@ fn in_phase(tokens: &[Token], phase: ImportPhase, name: &Item<'_>) -> Option<See
     }
 }
 
-/// `require("a")`: from two tokens before the literal to the one behind it.
+/// `require("a")`: from two tokens before the literal to the one after it.
 fn required(tokens: &[Token], source: &Item<'_>) -> Option<Seen> {
     let (from, to) = ends(source)?;
     let span = span(tokens, from.checked_sub(2)?, to.checked_add(1)?)?;

@@ -7,7 +7,7 @@ use es_view_expressions::pattern::{Marked, Pat, PatProp, marked_at, pat_at, pat_
 use es_view_statements::decl::{Declarator, declarator_at};
 use es_view_statements::param::{Param, Params, param_at, params_at};
 
-/// A pattern. A simple target is told by the range of its expression.
+/// A pattern. A simple target is given by the range of its expression.
 pub fn pattern(tokens: &[Token], it: &Item<'_>) -> Option<Seen> {
     let kind = match pat_at(it)? {
         Pat::Ident(_) => "Ident",
@@ -21,7 +21,7 @@ pub fn pattern(tokens: &[Token], it: &Item<'_>) -> Option<Seen> {
     told_at(kind, tokens, it)
 }
 
-/// A pattern up to this token, behind what belongs to it.
+/// A pattern up to this token, which follows what belongs to it.
 fn marked(tokens: &[Token], it: &Item<'_>, to: u32) -> Option<Seen> {
     let kind = match marked_at(it)? {
         Marked::Ident(_) => "Ident",
@@ -84,7 +84,7 @@ pub fn first_param(letter: &str, tokens: &[Token], it: &Item<'_>) -> Option<Seen
     }
 }
 
-/// The same of what stands between parentheses.
+/// The same of what is between parentheses.
 fn first_listed(letter: &str, tokens: &[Token], it: &Item<'_>) -> Option<Seen> {
     match params_at(it)? {
         Params::Plain { all, rest } => first_of(letter, tokens, &all, &rest),
@@ -111,7 +111,7 @@ fn first_of(
     }
 }
 
-/// What stands last among parameters: `...`, its pattern and the type of that.
+/// What comes last among parameters: `...`, its pattern and the type of that.
 pub fn rest_span(tokens: &[Token], rest: &Siblings<'_>) -> Option<base::Range> {
     let (from, to) = ends(&rest.part(0)?)?;
     span(tokens, from.checked_sub(1)?, behind(&rest.group_at(1), to)?)
@@ -146,7 +146,7 @@ fn pattern_of(tokens: &[Token], it: &Item<'_>) -> Option<Seen> {
     }
 }
 
-/// A pattern with a mark, a type and a default behind it, each of which may be absent.
+/// A pattern with a mark, a type and a default after it, each of which may be absent.
 fn tailed(
     tokens: &[Token],
     name: &Item<'_>,

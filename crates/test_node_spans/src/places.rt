@@ -52,7 +52,7 @@ fn in_statement(letter: &str, tokens: &[Token], it: &Item<'_>) -> Option<Seen> {
     }
 }
 
-/// The first clause of a `switch`, which begins behind the expression, `)` and `{`.
+/// The first clause of a `switch`, which begins after the expression, `)` and `{`.
 fn first_clause(tokens: &[Token], discriminant: &Item<'_>, cases: &Siblings<'_>) -> Option<Seen> {
     let turn = cases.part(0)?.group();
     let from = ends(discriminant)?.1.checked_add(2)?;

@@ -1,4 +1,4 @@
-//! Where nodes stand in the text: a row tells the numbers of tokens, and these their bytes.
+//! Where nodes are in the text: a row gives the numbers of tokens, and these their bytes.
 
 use base::Range;
 use es_syntax::{Item, Siblings};
@@ -44,7 +44,7 @@ pub fn span(tokens: &[Token], from: u32, to: u32) -> Option<Range> {
     })
 }
 
-/// The first token of a node or a token, and the one behind its last.
+/// The first token of a node or a token, and the one after its last.
 pub fn ends(it: &Item<'_>) -> Option<(u32, u32)> {
     match it.token() {
         Some(token) => Some((token, token.checked_add(1)?)),
@@ -52,7 +52,7 @@ pub fn ends(it: &Item<'_>) -> Option<(u32, u32)> {
     }
 }
 
-/// The same of the second number, where a part may be absent: then of what stands before it.
+/// The same of the second number, where a part may be absent: then of what precedes it.
 pub fn behind(part: &Siblings<'_>, before: u32) -> Option<u32> {
     match part.part(0) {
         Some(it) => Some(ends(&it)?.1),
@@ -66,7 +66,7 @@ pub fn told_at(kind: &'static str, tokens: &[Token], it: &Item<'_>) -> Option<Se
     Some(told(kind, span(tokens, from, to)?))
 }
 
-/// What stands first in a list.
+/// What comes first in a list.
 pub fn first_in<'a>(list: &Siblings<'a>) -> Option<Item<'a>> {
     list.part(0)?.group().part(0)
 }

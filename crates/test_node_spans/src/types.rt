@@ -76,7 +76,7 @@ fn compound_kind(it: &CompoundType<'_>) -> Option<&'static str> {
     }
 }
 
-/// What stands in the last brackets behind a type.
+/// What is in the last brackets after a type.
 fn brackets_kind(first: &Siblings<'_>, others: &Siblings<'_>) -> Option<&'static str> {
     let index = match last_in(others).last {
         Some(turn) => turn.group().group_at(0).part(0),

@@ -6,7 +6,7 @@ use source_text::text_changes::{TextChange, TextChangeError, apply_text_changes}
 use std::alloc::{AllocError, Global};
 use test_rows::Row;
 
-/// The changes of a row: behind its text how many there are, then a start, an end and a text for each.
+/// The changes of a row: after its text how many there are, then a start, an end and a text for each.
 fn changes_of(alloc: Global, row: &Row) -> Result<Vec<TextChange>, AllocError> {
     let mut changes = Vec::new(alloc);
     let mut at = 3usize;
@@ -43,7 +43,7 @@ pub fn copy_of_a_change(alloc: Global) -> Result<String, AllocError> {
     format!(in alloc; "same {}", copy == change)
 }
 
-/// The text of the bytes behind one byte order mark.
+/// The text of the bytes, less one byte order mark.
 pub fn text_of(alloc: Global, bytes: &[u8]) -> Result<String, AllocError> {
     let bytes = SharedBytes::from_slice(alloc, bytes)?;
     match SourceText::from_utf8(bytes) {

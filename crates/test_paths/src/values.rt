@@ -52,7 +52,7 @@ fn list(alloc: Global) -> Result<String, AllocError> {
     format!(in alloc; "{told} {last:?} {}", items.len())
 }
 
-/// A copy of the list 1, and that list with 4 behind it.
+/// A copy of the list 1, and that list with 4 after it.
 fn copy_of_a_list(alloc: Global) -> Result<String, AllocError> {
     let mut items = Items::new(alloc);
     items.push(1u8)?;

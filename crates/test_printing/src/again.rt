@@ -1,4 +1,4 @@
-//! Whether two texts have the same tree but for positions, and for the `;` or `,` behind members of types.
+//! Whether two texts have the same tree but for positions, and for the `;` or `,` after members of types.
 
 use es_syntax::{Entry, What};
 use es_token::{Token, TokenKind};
@@ -12,7 +12,7 @@ pub struct Read<'a> {
     pub entries: &'a [Entry],
 }
 
-/// What stands at an entry: what it is, the spelling of its token where it is one, and how many entries its parts take.
+/// An entry: what it is, the spelling of its token where it is one, and how many entries its parts take.
 #[derive(Clone, Copy)]
 struct Part<'a> {
     what: What,
@@ -53,7 +53,7 @@ fn is_same(a: &Part<'_>, b: &Part<'_>) -> bool {
     }
 }
 
-/// What stands in the row, in its order, without the tokens behind members.
+/// What is in the row, in its order, without the tokens after members.
 fn parts_in<'a>(alloc: Global, read: &Read<'a>) -> Result<Vec<Part<'a>>, AllocError> {
     let passed = passed_before(alloc, read)?;
     let mut parts = Vec::new(alloc);
@@ -78,7 +78,7 @@ fn count_at(passed: &[u32], at: usize) -> u32 {
     }
 }
 
-/// How many tokens behind members stand before each entry, and before the row's end.
+/// How many tokens after members precede each entry, and the row's end.
 fn passed_before(alloc: Global, read: &Read<'_>) -> Result<Vec<u32>, AllocError> {
     let mut passed = Vec::new(alloc);
     let mut count: u32 = 0;

@@ -8,8 +8,8 @@ use std::alloc::{AllocError, Global};
 use test_rows::Row;
 use url::Url;
 
-/// The new text of a row, or where its sites stand and what they name, or which change can't be made and why. Behind its
-/// URL and its source stands how many changes there are, then for each the number of a site and its new specifier.
+/// The new text of a row, or where its sites are and what they name, or which change can't be made and why. After its
+/// URL and its source comes how many changes there are, then for each the number of a site and its new specifier.
 pub fn answer(alloc: Global, row: &Row) -> Result<String, AllocError> {
     match Url::parse(alloc, row.at(1)) {
         Ok(specifier) => answer_at(alloc, row, &specifier),

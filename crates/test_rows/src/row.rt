@@ -2,7 +2,7 @@
 
 use std::alloc::{AllocError, Global};
 
-/// The fields of a line, which stand between tabs: the first names the call, the last is what is wanted.
+/// The fields of a line, separated by tabs: the first names the call, the last is what is wanted.
 #[derive(Drop)]
 pub struct Row {
     fields: Vec<String>,
@@ -48,8 +48,8 @@ impl Row {
         }
     }
 
-    /// The bytes that the field of that number, from 0, has as pairs of hexadecimal digits. What stands between these is
-    /// passed over.
+    /// The bytes that the field of that number, from 0, has as pairs of hexadecimal digits. Other characters are
+    /// skipped.
     pub fn bytes(&self, alloc: Global, number: usize) -> Result<Vec<u8>, AllocError> {
         let mut bytes = Vec::new(alloc);
         let mut high: Option<u32> = None;
@@ -97,7 +97,7 @@ fn with_digit(code: u32, digit: u32) -> u32 {
     code.wrapping_mul(16).wrapping_add(digit)
 }
 
-/// The character for which an escape stands, by its last one.
+/// The character that an escape denotes, by its last one.
 fn character(escape: Escape, last: char) -> char {
     match (escape, last) {
         (Escape::Begun, 'n') => '\n',

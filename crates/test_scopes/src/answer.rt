@@ -3,7 +3,6 @@
 ghost use Rattle.es_lexer.specs.Reads.{ReadsTokens};
 
 use crate::vars::bound;
-use es_bound_names::cut;
 use es_lexer::lex_tokens;
 use es_program_reader::read_program;
 use es_scopes::program_marks;
@@ -85,7 +84,8 @@ fn add(
         out.push_str(" ")?;
     }
     if let Some(token) = tokens.get(token as usize) {
-        if let Some(name) = cut(text, *token) {
+        let range = token.range();
+        if let Some(name) = text.get(range.start..range.end) {
             out.push_str(name)?;
         }
     }

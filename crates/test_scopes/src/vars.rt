@@ -11,7 +11,7 @@ use es_variables::{Id, Ident, Scope, ScopeIds, Var, ident_at};
 use std::alloc::{AllocError, Global};
 
 /// Each name of a program, in the order of the text: its number, how often its spelling is declared where that is more
-/// than once, and how it is bound, with what stands around it.
+/// than once, and how it is bound, with what is around it.
 pub fn bound(
     alloc: Global,
     text: &str,

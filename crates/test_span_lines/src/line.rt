@@ -52,7 +52,7 @@ fn node_line(
     }
 }
 
-/// Where the token stands that a fault names.
+/// Where the token is that a fault names.
 fn fault_line(alloc: Global, token: Option<&Token>) -> Result<String, AllocError> {
     match token {
         Some(token) => format!(in alloc; "Syntax {}-{}", token.range().start, token.range().end),

@@ -1,4 +1,4 @@
-//! Prints the kind and the range of one node of each text, in a line. The texts of the input stand between U+0001; the
+//! Prints the kind and the range of one node of each text, in a line. The texts of the input are separated by U+0001; the
 //! first character of each says which node of its first item is meant (`place` of `test_node_spans`): `i` the item, `j` the
 //! first statement of a script.
 #![tactic(auto)]

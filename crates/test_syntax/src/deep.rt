@@ -1,4 +1,4 @@
-//! Texts whose forms stand in each other as deep as they are read.
+//! Texts whose forms are nested as deep as they are read.
 
 use es_lexer::lex_tokens;
 use es_parser::parse_tokens;
@@ -18,8 +18,8 @@ const MOST: usize = 500;
 /// More levels than any tree has.
 const TOO_MANY: usize = 100_000;
 
-/// What stands before the first level, what a level writes before the next one, what the innermost holds, and what a
-/// level writes behind the next one.
+/// What precedes the first level, what a level writes before the next one, what the innermost holds, and what a
+/// level writes after the next one.
 type Form = (&'static str, &'static str, &'static str, &'static str);
 
 const PLAIN: [Form; 18] = [
@@ -141,7 +141,7 @@ const PARTS: usize = 1_000;
 /// How many parts the longest chains have.
 const MANY: usize = 1_000_000;
 
-/// A part of a chain, how many of it stand behind `a`, and the language.
+/// A part of a chain, how many of it follow `a`, and the language.
 type Chain = (&'static str, usize, Lang);
 
 const CHAINS: [Chain; 14] = [

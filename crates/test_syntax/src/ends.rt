@@ -1,4 +1,4 @@
-//! Texts, and where the parts that stand in them end.
+//! Texts, and where the parts in them end.
 
 use es_grammar::{NodeKind, TypeRow};
 use es_lexer::lex_tokens;
@@ -9,7 +9,7 @@ use grammar_theory::Lang;
 use std::alloc::Global;
 use std::test::Fail;
 
-/// Where a part ends, if it stands there.
+/// Where a part ends, if it is there.
 fn end_of(
     alloc: Global,
     part: TypePart,
@@ -81,7 +81,7 @@ fn room_bounds_the_nodes_on_a_path(rt: HostRuntime) -> Result<(), Fail> {
     Ok(())
 }
 
-/// The alternative of a node and where it stands.
+/// The alternative of a node and where it is.
 fn node_of(entry: Option<&Entry>) -> Option<(NodeKind, u32, u32)> {
     match entry {
         Some(
@@ -118,7 +118,7 @@ fn reference_holds_its_arguments(rt: HostRuntime) -> Result<(), Fail> {
     assert_eq!(rt; cursor.at, 4);
     let entries = cursor.row.row().entries;
     assert_eq!(rt; node_of(entries.first()), Some((NodeKind::Reference, 0, 4)));
-    // Before the arguments stand the name's node, its one token and its further names: none.
+    // Before the arguments come the name's node, its one token and its further names: none.
     assert_eq!(rt;
         node_of(entries.get(4)),
         Some((NodeKind::TypeArguments, 1, 4))

@@ -41,7 +41,7 @@ fn form(alloc: Global, expr: &Item<'_>) -> Result<String, AllocError> {
     }
 }
 
-/// Operators between operands may lean left in one entry.
+/// Left-associative operators between operands may share one entry.
 fn kind_of(expr: &Item<'_>) -> &'static str {
     if chain_at(expr).is_some() || matches!(operator_at(expr), Some(Operator::Binary { .. })) {
         return "operators";

@@ -6,7 +6,7 @@ use grammar_theory::{Lang, Mode};
 use std::alloc::{AllocError, Global};
 use std::test::Fail;
 
-/// Whether END stands before that token, and takes none.
+/// Whether END is before that token, and takes none.
 fn ends(next: &Option<Token>) -> bool {
     match next {
         Some(token) => token.line_before() && token.kind() != TokenKind::Semicolon,
@@ -69,7 +69,7 @@ const PIECES: [&str; 9] = [
     "", " import", " 'a'", " ;", " x", "\nimport", "\n'a'", "\n;", "\nx",
 ];
 
-/// Whether each text of this piece, with each piece behind it up to four in all, agrees.
+/// Whether each text of this piece, with each piece after it up to four in all, agrees.
 fn each_agrees(alloc: Global, front: &str) -> Result<bool, AllocError> {
     for c in PIECES {
         for d in PIECES {

@@ -31,7 +31,7 @@ fn item_of<'a>(turn: &Item<'a>) -> Option<Item<'a>> {
     turn.group().part(0)
 }
 
-/// The name of the first of the parameters, and whether anything stands behind it.
+/// The name of the first of the parameters, and whether anything follows it.
 fn first_param(params: &Item<'_>) -> Option<(u32, bool)> {
     let TypeFnParams::Params { all, rest: _ } = params_at(params)? else {
         return None;

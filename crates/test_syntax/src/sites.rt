@@ -6,7 +6,7 @@ use std::alloc::{AllocError, Global};
 use std::test::Fail;
 
 /// Texts with an `import("")` in each place of a form that may hold an expression; the last ones are those before them, one
-/// behind the other.
+/// after the other.
 const PLACES: &[&str] = &[
     "[...import(\"\")];",
     "(import(\"\"));",
@@ -186,7 +186,7 @@ fn placed(alloc: Global, text: &str) -> Result<String, AllocError> {
     Ok(out)
 }
 
-/// Of those texts the ones whose sites stand elsewhere.
+/// Those of the texts whose sites are elsewhere.
 fn misplaced(alloc: Global, lang: Lang, mode: Mode, texts: &[&str]) -> Result<String, AllocError> {
     let mut out = String::new(alloc);
     for text in texts {

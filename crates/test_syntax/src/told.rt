@@ -1,4 +1,4 @@
-//! What is told of texts.
+//! What is reported of texts.
 
 use crate::forms::{form_of, import_of};
 use crate::members::members_of;
@@ -38,7 +38,7 @@ pub struct Source<'a> {
     pub row: Siblings<'a>,
 }
 
-/// What is told of a text, or `none` where it has no tree.
+/// What is reported of a text, or `none` where it has no tree.
 pub fn told(
     alloc: Global,
     ask: Ask,
@@ -60,7 +60,7 @@ pub fn told(
     }
 }
 
-/// The rows, a text and what is wanted of it, of which something else is told, with that.
+/// The rows, a text and what is wanted of it, of which something else is reported, with that.
 pub fn others(
     alloc: Global,
     ask: Ask,

@@ -7,8 +7,8 @@ use test_rows::Row;
 use url::Url;
 use vendor_files::{VendorFile, VendorWriteError, write_files};
 
-/// What the write of a row's files answers, then what their paths hold and how many calls were made. Behind the numbers of the
-/// calls that fail stand how many files there are, and of each its URL and its text. The folder `/v` is there, and in it
+/// What the write of a row's files answers, then what their paths hold and how many calls were made. After the numbers of the
+/// calls that fail come how many files there are, and of each its URL and its text. The folder `/v` is there, and in it
 /// the file `m1.ts`, which holds `old`.
 pub fn files(alloc: Global, row: &Row) -> Result<String, AllocError> {
     let Some(files) = files_of(alloc, row)? else {

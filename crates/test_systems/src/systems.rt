@@ -108,7 +108,7 @@ fn entry(alloc: Global, call: &SysCall) -> Result<String, AllocError> {
     )
 }
 
-// Asks for a call, and tells its answer and its entry; of `file` what the path holds.
+// Makes a call, and reports its answer and its entry; of `file` what the path holds.
 fn turn(alloc: Global, sys: &mut InMemorySys, line: &str) -> Result<String, AllocError> {
     let mut words = line.split_whitespace();
     let call = words.next().unwrap_or("");
@@ -139,7 +139,7 @@ fn held(alloc: Global, content: Option<&[u8]>) -> Result<String, AllocError> {
     }
 }
 
-/// What the last of some calls answers, which stand between `;`.
+/// What the last of some calls, separated by `;`, answers.
 pub fn turns(alloc: Global, fails: bool, calls: &str) -> Result<String, AllocError> {
     let mut sys = system(alloc, if fails { &[1, 3] } else { &[] })?;
     let mut last = String::new(alloc);

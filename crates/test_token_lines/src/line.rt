@@ -3,8 +3,8 @@
 use es_lexer::{Comment, CommentKind, LexError, Lexed, Token, lex_tokens};
 use std::alloc::{AllocError, Global};
 
-/// Tokens, then comments, each with its range. A star stands before a token on a new line, the number of its partner
-/// behind it. Else the fault.
+/// Tokens, then comments, each with its range. A star precedes a token on a new line; the number of a token's
+/// partner follows the token. Else the fault.
 pub fn line_of(alloc: Global, text: &str) -> Result<String, AllocError> {
     match lex_tokens(alloc, text) {
         Ok(lexed) => lexed_line(alloc, &lexed),

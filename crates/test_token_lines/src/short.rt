@@ -3,7 +3,7 @@
 use crate::line::line_of;
 use std::alloc::{AllocError, Global};
 
-/// Brackets and templates; slashes, words and what stands before them; numbers.
+/// Brackets and templates; slashes, words and what precedes them; numbers.
 pub const ALPHABETS: [[&str; 8]; 3] = [
     ["(", ")", "[", "]", "{", "}", "`", "${"],
     ["/", "*", "!", "a", "if", "\n", "(", ")"],

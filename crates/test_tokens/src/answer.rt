@@ -15,7 +15,7 @@ pub fn answer(alloc: Global, row: &Row) -> Result<String, AllocError> {
     }
 }
 
-/// Tokens, then comments, each with its range; a star stands before a token on a new line. Else the fault.
+/// Tokens, then comments, each with its range; a star precedes a token on a new line. Else the fault.
 fn tokens(alloc: Global, text: &str) -> Result<String, AllocError> {
     match lex_tokens(alloc, text) {
         Ok(lexed) => described(alloc, &lexed),
@@ -76,7 +76,7 @@ fn partners_of(alloc: Global, tokens: &[Token]) -> Result<String, AllocError> {
     Ok(out)
 }
 
-/// The value of a string literal, behind `lone` where it holds a surrogate alone.
+/// The value of a string literal, after `lone` where it holds a lone surrogate.
 fn value(alloc: Global, literal: &str) -> Result<String, AllocError> {
     let value = literal_value(alloc, literal)?;
     let (lone, text) = (if value.lone { "lone " } else { "" }, value.text.as_str());

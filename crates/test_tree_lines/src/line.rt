@@ -8,7 +8,7 @@ use es_token::Token;
 use grammar_theory::{Lang, Mode, SyntaxError};
 use std::alloc::{AllocError, Global};
 
-/// The tree of a text behind its mode, or why it has none.
+/// The tree of a text after its mode, or why it has none.
 pub fn line_of(alloc: Global, text: &str) -> Result<String, AllocError> {
     if let Some(script) = text.strip_prefix('s') {
         return program_line(alloc, Mode::Script, script);
@@ -54,7 +54,7 @@ fn push_trees(alloc: Global, line: &mut String, trees: &Siblings<'_>) -> Result<
     Ok(())
 }
 
-/// A node: the alternative that was read, its first token and the one behind its last, its nodes. A role around a node.
+/// A node: the alternative that was read, its first token and the one after its last, its nodes. A role around a node.
 #[cycle(lines)]
 fn push_tree(alloc: Global, line: &mut String, tree: &Item<'_>) -> Result<(), AllocError> {
     match tree.what {
@@ -74,7 +74,7 @@ fn push_tree(alloc: Global, line: &mut String, tree: &Item<'_>) -> Result<(), Al
     }
 }
 
-/// Nodes that lean left: the heads of all of them, the first operand, and the parts of each turn with the end of its node.
+/// Left-associative nodes: the heads of all of them, the first operand, and the parts of each turn with the end of its node.
 #[cycle(lines)]
 fn push_leaning(
     alloc: Global,
@@ -97,7 +97,7 @@ fn push_leaning(
     Ok(())
 }
 
-/// The heads of the nodes that lean left over these turns: the outermost, which ends with the last turn, comes first.
+/// The heads of the left-associative nodes over these turns: the outermost, which ends with the last turn, comes first.
 fn push_heads(
     alloc: Global,
     line: &mut String,

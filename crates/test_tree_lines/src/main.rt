@@ -1,4 +1,4 @@
-//! Prints the plain trees of texts that `read_program` answers, a line each (`src/line.rt`). The texts of the input stand between U+0001; the
+//! Prints the plain trees of texts that `read_program` answers, a line each (`src/line.rt`). The texts of the input are separated by U+0001; the
 //! first character of each is its mode: `m` a module, `s` a script.
 #![tactic(auto)]
 

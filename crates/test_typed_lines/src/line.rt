@@ -1,4 +1,4 @@
-//! Where the nodes of one text stand, in a line.
+//! Where the nodes of one text are, in a line.
 
 use es_lexer::{LexError, lex_tokens};
 use es_program_reader::read_program;
@@ -7,7 +7,7 @@ use es_token::Token;
 use grammar_theory::{Lang, Mode, SyntaxError};
 use std::alloc::{AllocError, Global};
 
-/// The nodes of the text behind its mode, or why it has no tree.
+/// The nodes of the text after its mode, or why it has no tree.
 pub fn line_of(alloc: Global, text: &str) -> Result<String, AllocError> {
     if let Some(script) = text.strip_prefix('s') {
         return program_line(alloc, Mode::Script, script);
@@ -66,7 +66,7 @@ fn push_trees(alloc: Global, line: &mut String, trees: &Siblings<'_>) -> Result<
     Ok(())
 }
 
-/// A node that takes a token: its first one and the one behind its last, before the nodes in it.
+/// A node that takes a token: its first one and the one after its last, before the nodes in it.
 #[cycle(lines)]
 fn push_tree(alloc: Global, line: &mut String, tree: &Item<'_>) -> Result<(), AllocError> {
     match tree.what {
@@ -79,7 +79,7 @@ fn push_tree(alloc: Global, line: &mut String, tree: &Item<'_>) -> Result<(), Al
     push_trees(alloc, line, &tree.parts)
 }
 
-/// Nodes that lean left over a first operand and turns: the outermost, which ends with the last turn, comes first.
+/// Left-associative nodes over a first operand and turns: the outermost, which ends with the last turn, comes first.
 fn push_leaning(
     alloc: Global,
     line: &mut String,
@@ -102,7 +102,7 @@ fn push_leaning(
     Ok(())
 }
 
-/// A range that has a token, behind a blank where one stands before it.
+/// A range that has a token, after a blank where another precedes it.
 fn push_range(alloc: Global, line: &mut String, from: u32, to: u32) -> Result<(), AllocError> {
     if to <= from {
         return Ok(());

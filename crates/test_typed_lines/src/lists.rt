@@ -1,10 +1,10 @@
-//! Where the nodes of all short lists stand that have a tree, in a line each.
+//! Where the nodes of all short lists that have a tree are, a line each.
 
 use crate::line::module_line;
 use std::alloc::{AllocError, Global};
 
 /// The lines of the lists of one to four pieces that have a tree between two parts of a text, and how many lists there are. The
-/// parts and the pieces stand between tabs, the parts first.
+/// parts and the pieces are separated by tabs, the parts first.
 pub fn lines_of(alloc: Global, words: &str) -> Result<String, AllocError> {
     let mut parts = words.split('\t');
     let front = parts.next().unwrap_or("");
@@ -54,7 +54,7 @@ fn push_lists(
     Ok(())
 }
 
-/// The list whose pieces are the digits of the number, the lowest first, each behind a blank.
+/// The list whose pieces are the digits of the number, the lowest first, each after a blank.
 fn list_of(
     alloc: Global,
     pieces: &[&str],

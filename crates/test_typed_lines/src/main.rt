@@ -1,5 +1,5 @@
-//! Prints where the nodes of plain trees of TypeScript stand that `read_program` answers, a line for each text (`src/line.rt`). The
-//! texts of the input stand between U+0001; the first character of each is its mode: `m` a module, `s` a script. Behind `l` stand
+//! Prints where the nodes of plain trees of TypeScript are that `read_program` answers, a line for each text (`src/line.rt`). The
+//! texts of the input are separated by U+0001; the first character of each is its mode: `m` a module, `s` a script. After `l` come
 //! pieces of a text, whose short lists are tried (`src/lists.rt`).
 #![tactic(auto)]
 

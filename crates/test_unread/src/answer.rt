@@ -4,7 +4,7 @@ use es_lexer::{LexError, lex_tokens};
 use std::alloc::{AllocError, Global};
 use unread_calls::{UnreadCall, unread_calls};
 
-/// What each call loads by, with its range and what stands there; or the first fault.
+/// What each call loads by, with its range and the text there; or the first fault.
 pub fn answer(alloc: Global, text: &str) -> Result<String, AllocError> {
     match lex_tokens(alloc, text) {
         Ok(lexed) => {

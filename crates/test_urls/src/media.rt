@@ -6,7 +6,7 @@ use std::collections::BTreeMap;
 use test_rows::Row;
 use url::Url;
 
-/// What the call of a row answers of its texts: the name of a media type, or what is told of one.
+/// What the call of a row answers of its texts: the name of a media type, or what is reported of one.
 pub fn media(alloc: Global, row: &Row) -> Result<String, AllocError> {
     let (text, other) = (row.at(1), row.at(2));
     match row.call() {

@@ -10,9 +10,9 @@ use std::alloc::{AllocError, Global};
 use test_rows::Row;
 use url::Url;
 
-/// The graph of a row's roots and modules, if its specifiers are URLs. Behind the folder stand the roots, parted by blanks,
+/// The graph of a row's roots and modules, if its specifiers are URLs. After the folder come the roots, separated by blanks,
 /// a place outside that imports the first of them or nothing, and for each module its specifier, a word for its answer and
-/// a text: that of `text`, where `redirect` leads to, nothing of `external`.
+/// a text: that of `text`, the target of `redirect`, nothing of `external`.
 pub fn graph_of(alloc: Global, row: &Row) -> Result<Option<ModuleGraph>, AllocError> {
     let Some(roots) = urls(alloc, row.at(2))? else {
         return Ok(None);

@@ -1,4 +1,4 @@
-//! The nodes that may stand next.
+//! The nodes that may come next.
 ghost use Rattle.std.specs.Prelude.{◌≡◌, ◌∷◌, ◌||◌, ◌&&◌, ◌==◌, ◌≤◌, ℕ, true, false, [], OnOk, IfSome, MatchOption};
 ghost use Rattle.topological_order.specs.Order.{has};
 

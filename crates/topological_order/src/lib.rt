@@ -1,9 +1,9 @@
 //! The least order of numbered nodes in which each link leads to a node before its own, or the first cycle where there is none.
 //!
-//! - `order(links)`: exactly that (`IsFound`, `specs/Order.antt`). An order and a cycle never stand together, and one of the two
+//! - `order(links)`: exactly that (`IsFound`, `specs/Order.antt`). An order and a cycle never exist together, and one of the two
 //!   is always there.
 //!
-//! Linear in the links, but for an ordered set of the nodes that may stand next. Running out of memory is the one answer without
+//! Linear in the links, but for an ordered set of the nodes that may come next. Running out of memory is the one answer without
 //! a cause.
 #![tactic(auto)]
 

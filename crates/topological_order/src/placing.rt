@@ -1,4 +1,4 @@
-//! Placing nodes one behind the other, the least that may stand there first.
+//! Placing nodes one after the other, the least that may come next first.
 ghost use Rattle.std.specs.Prelude.{◌≡◌, ◌<◌, ◌≤◌, ℕ, true, false, Bool, ◌||◌, ◌==◌, List, [], ◌∷◌, ◌++◌, length, slice_index, slice_index_or, slice_set, replicate, not, ◌&&◌, IfOk, OnOk};
 ghost use Rattle.std.specs.List.{AllByRecursion};
 ghost use Rattle.topological_order.specs.Order.{AreWithin, links_of, has};
@@ -73,7 +73,7 @@ fn zeros(alloc: Global, count: usize) -> Result<Items<usize>, AllocError>
 }
 
 impl Placing {
-    // Places a node that is the least of those that may stand next, and was taken from them.
+    // Places a node that is the least of those that may come next, and was taken from them.
     fn place(
         &mut self,
         links: &[Items<usize>],

@@ -1,4 +1,4 @@
-//! What stands around a word among tokens.
+//! What surrounds a word among tokens.
 ghost use Rattle.std.specs.Prelude.{◌≡◌, ◌+◌, slice_get};
 ghost use Rattle.unread_calls.specs.Unread as spec;
 
@@ -15,7 +15,7 @@ pub fn token_at(tokens: &[Token], i: usize) -> Option<Token>
     tokens.get(i).copied()
 }
 
-/// The token that stands so many behind that one.
+/// The token `count` after that with this number.
 fn token_behind(tokens: &[Token], i: usize, count: usize) -> Option<Token>
     ensures { result ≡ slice_get tokens.now (i + count) }
 {
@@ -63,7 +63,7 @@ fn kind_before(tokens: &[Token], i: usize, count: usize) -> Option<TokenKind>
     kind_of(token_before(tokens, i, count))
 }
 
-/// Whether the word is a phase, behind `import` and `.`.
+/// Whether the word is a phase, after `import` and `.`.
 pub fn is_in_phase(tokens: &[Token], i: usize) -> bool
     ensures { result ≡ spec.is_in_phase tokens.now i }
 {
@@ -83,7 +83,7 @@ pub fn head(tokens: &[Token], i: usize) -> usize
     }
 }
 
-/// Whether a bracket stands behind the word, and something in the bracket.
+/// Whether a bracket follows the word, with something in it.
 pub fn takes_argument(tokens: &[Token], i: usize) -> bool
     ensures { result ≡ spec.takes_argument tokens.now i }
 {
@@ -97,7 +97,7 @@ pub fn takes_literal(tokens: &[Token], i: usize) -> bool
     is_string(kind_behind(tokens, i, 2)) && ends_argument(kind_behind(tokens, i, 3))
 }
 
-/// The number of the bracket that closes the one behind the word.
+/// The number of the bracket that closes the one after the word.
 pub fn closing(tokens: &[Token], i: usize) -> Option<usize>
     ensures { result ≡ spec.closing tokens.now i }
 {
@@ -150,7 +150,7 @@ pub fn is_name(tokens: &[Token], i: usize) -> bool
         || has_body(tokens, i)
 }
 
-/// Whether the word stands in `import a = require("b")`.
+/// Whether the word is in `import a = require("b")`.
 pub fn is_import_equals(tokens: &[Token], i: usize) -> bool
     ensures { result ≡ spec.is_import_equals tokens.now i }
 {

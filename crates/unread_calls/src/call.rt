@@ -38,7 +38,7 @@ pub fn unread_calls(alloc: Global, tokens: &[Token]) -> Result<Items<UnreadCall>
     Ok(calls)
 }
 
-// Puts the call of the word with this number behind those found.
+// Adds the call of the word with this number after those found.
 fn add_unread(tokens: &[Token], i: usize, calls: &mut Items<UnreadCall>) -> Result<(), AllocError>
     ensures { OnOk result (calls.new ≡ calls.old ++ option_to_list (spec.unread_at tokens.now i)) }
 {

@@ -53,7 +53,7 @@ pub fn is_equal(kind: Option<TokenKind>) -> bool
     matches!(kind, Some(TokenKind::Equal))
 }
 
-/// `.`, `?.` or `function`: a word behind it is a name.
+/// `.`, `?.` or `function`: a word after it is a name.
 pub fn names(kind: Option<TokenKind>) -> bool
     ensures { result ≡ spec.names kind }
 {
@@ -63,7 +63,7 @@ pub fn names(kind: Option<TokenKind>) -> bool
     )
 }
 
-/// `extends` or `new`: a `{` may stand behind a call.
+/// `extends` or `new`: a `{` may follow a call.
 pub fn is_heritage(kind: Option<TokenKind>) -> bool
     ensures { result ≡ spec.is_heritage kind }
 {

@@ -1,4 +1,4 @@
-//! Calls that may load a module and for which a graph has no edge, told by the tokens of a source alone.
+//! Calls that may load a module and for which a graph has no edge, determined by the tokens of a source alone.
 //!
 //! - `unread_calls(tokens)`: each `import(..)` whose first argument is no string literal, and each `require(..)`, in the
 //!   order of the text (`unread_of`, `specs/Unread.antt`).

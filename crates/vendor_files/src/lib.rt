@@ -4,7 +4,7 @@
 //!   can go there. Which files have their bytes then, and that the others are as they were: `IsWritten`,
 //!   `specs/Written.antt`; or the first file that can't go where its URL says: `first_unfit`, `specs/Places.antt`.
 //!
-//! The states are told by what the system tells of its files and its log; one that tells nothing is promised the causes
+//! The states are given by what the system reports of its files and its log; one that reports nothing is promised the causes
 //! of refusals alone. Not promised: when memory runs out.
 #![tactic(auto)]
 

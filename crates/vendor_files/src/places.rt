@@ -37,7 +37,7 @@ pub fn places_of(alloc: Global, files: &[VendorFile]) -> Result<Placed, AllocErr
     Ok(Placed::At(paths))
 }
 
-// Puts the path of a URL behind these, and tells whether a file can go there.
+// Puts the path of a URL after these, and returns whether a file can go there.
 fn place_next(alloc: Global, paths: &mut IndexSet<Text>, url: &Url) -> Result<bool, AllocError>
     ensures { IfOk result (λ yes. spec.IsNext paths.old.keys url.now yes paths.new.keys) }
 {

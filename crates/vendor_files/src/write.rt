@@ -51,7 +51,7 @@ fn write_all<S: AtomicWriteFileWithRetriesSys>(
     }
 }
 
-// What is told of a file that the system refused.
+// What is reported of a file that the system refused.
 fn told(file: &VendorFile, error: SysError) -> VendorWriteError
     ensures { spec.IsToldOf file.now error result }
 {

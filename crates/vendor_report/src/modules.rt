@@ -260,7 +260,7 @@ fn add_root(alloc: Global, out: &mut String, root: &Url) -> Result<(), AllocErro
     add_quoted(alloc, out, root.as_str())
 }
 
-// ---- what stands between
+// ---- what is in between
 
 #[tactic(auto, unfolding(crate::specs::Plans::text_front))]
 fn add_text_front(out: &mut String) -> Result<(), AllocError>

@@ -1,3 +1,4 @@
 mod DueLemmas
 mod RunLemmas
 mod WordLemmas
+pub mod ProgramLemmas

@@ -7,7 +7,7 @@ ghost use Rattle.vendor_run.specs.Words.{IsFolder, IsVendor, NamesFolder};
 use std::alloc::{AllocError, Global};
 use url::{ParseError, Url};
 
-/// The folder that the words `vendor BASE` name. Other words take no memory.
+/// The folder that the arguments `vendor BASE` name. Other arguments allocate nothing.
 pub fn folder_of(alloc: Global, words: &[String]) -> Result<Option<Url>, AllocError>
     ensures folder { IfOk result (λ found. MatchOption found
         ((base : Parts) → ¬ IsVendor base (map string_bytes words.now)) (λ base. IsVendor base (map string_bytes words.now))) }

@@ -21,7 +21,7 @@ pub struct WasmDeps<'a> {
 pub struct Import<'a> {
     pub name: &'a str,
     pub module: &'a str,
-    /// Where the bytes of the module's name stand in the input.
+    /// Where the bytes of the module's name are in the input.
     pub module_range: Range,
     pub import_type: ImportType,
 }

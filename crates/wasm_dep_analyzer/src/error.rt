@@ -4,7 +4,7 @@ ghost use Rattle.wasm_dep_analyzer.specs.declared.error.ParseError.TheVariants.{
 use std::alloc::{AllocError, AllocFailed};
 use thiserror::Error;
 
-/// Why a module, or the type of an export, cannot be told. Bytes are shown in hexadecimal digits.
+/// Why a module, or the type of an export, cannot be determined. Bytes are shown in hexadecimal digits.
 #[derive(Clone, Copy, Debug, PartialEq, Eq, Error)]
 pub enum ParseError {
     #[error("out of memory")]
@@ -29,10 +29,10 @@ pub enum ParseError {
     InvalidMutabilityFlag(u8),
     #[error("unknown attribute '{0:X}'")]
     UnknownTagKind(u8),
-    /// A function type that does not begin with its mark. It stands in the result of an export alone.
+    /// A function type that does not begin with its mark. It occurs only in the result of an export.
     #[error("invalid type indicator '{0:X}'")]
     InvalidTypeIndicator(u8),
-    /// An export whose type is not there, or was not read. It stands in the result of an export alone.
+    /// An export whose type is not there, or was not read. It occurs only in the result of an export.
     #[error("unresolved export type")]
     UnresolvedExportType,
 }

@@ -138,7 +138,7 @@ fn read_global(input: &[u8]) -> Result<(ImportType, &[u8]), ParseError>
     Ok((ImportType::Global(global), rest))
 }
 
-/// A kind byte, and what it tells.
+/// A kind byte, and the import type of that kind.
 #[tactic(auto, unfolding(crate::specs::Types::import_type_at))]
 fn read_import_type(input: &[u8]) -> Result<(ImportType, &[u8]), ParseError>
     ensures { Gives (λ read. (read.0, read.1.now)) result (import_type_at input.now) }

@@ -143,7 +143,7 @@ pub fn function_section(alloc: Global, payload: &[u8]) -> Result<Vec<u32>, Parse
     Ok(items)
 }
 
-/// The bytes behind the first 0B, with which an initialiser ends.
+/// The bytes after the first 0B, with which an initialiser ends.
 fn skip_initialiser(input: &[u8]) -> Result<&[u8], ParseError>
     ensures { Gives (λ rest. rest.now) result (behind_end input.now) }
 {

@@ -20,7 +20,7 @@ use std::alloc::{AllocError, Global};
 /// What a module begins with.
 const MAGIC: [u8; 4] = *b"\0asm";
 
-/// The bytes behind the version, which is 1.
+/// The bytes after the version, which is 1.
 fn read_version(input: &[u8]) -> Result<&[u8], ParseError>
     ensures { Gives (λ body. body.now) result (version_at input.now) }
 {
@@ -35,7 +35,7 @@ fn read_version(input: &[u8]) -> Result<&[u8], ParseError>
     Ok(body)
 }
 
-/// The bytes behind the header.
+/// The bytes after the header.
 #[tactic(auto, unfolding(crate::specs::Module::header_at))]
 fn read_header(input: &[u8]) -> Result<&[u8], ParseError>
     ensures { Gives (λ body. body.now) result (header_at input.now) }
@@ -141,9 +141,9 @@ fn read_module<'a>(
 }
 
 impl<'a> WasmDeps<'a> {
-    /// What a module imports and exports. Sections that nothing wanted stands in are skipped by their length, and
-    /// nothing is read behind the last section that is wanted. A fault in the type, function or global section
-    /// stands in the results of the exports that it concerns, and does not fail the call.
+    /// What a module imports and exports. Sections with nothing wanted in them are skipped by their length, and
+    /// nothing is read after the last section that is wanted. A fault in the type, function or global section
+    /// is in the results of the exports that it concerns, and does not fail the call.
     pub fn parse(
         alloc: Global,
         input: &'a [u8],

@@ -3,7 +3,7 @@ ghost use Rattle.std.specs.Prelude.{◌≡◌, IfOk};
 use base::Items;
 use std::alloc::AllocError;
 
-/// A value type, as far as it is told apart (WebAssembly Core, "Value Types").
+/// A value type, as far as it is distinguished (WebAssembly Core, "Value Types").
 #[derive(Clone, Copy, Debug, PartialEq, Eq)]
 pub enum ValueType {
     I32,

@@ -100,7 +100,7 @@ pub trait ReadItem<'a> {
     ghost shows_none: { show_all [] ≡ [] };
 }
 
-/// So many items, one behind the other. Memory grows by what was read, and not by the count.
+/// `count` items, one after the other. Memory grows by what was read, and not by the count.
 pub fn read_items<'a, R: ReadItem<'a>>(
     alloc: Global,
     reader: &R,

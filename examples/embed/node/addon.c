@@ -254,6 +254,218 @@ static napi_value report(napi_env env, napi_callback_info info)
     return object;
 }
 
+/* ---- a graph whose loads the caller does: its handle is an external value, which frees it */
+
+static void free_graph(napi_env env, void *data, void *hint)
+{
+    (void)env;
+    (void)hint;
+    joravelsu_graph_free(data);
+    free(data);
+}
+
+static napi_value graph_new(napi_env env, napi_callback_info info)
+{
+    size_t count = 1, length, needed = 0;
+    napi_value words[1], result;
+    const uint8_t *settings;
+    uint8_t line[4096];
+    const joravelsu_graph none = JORAVELSU_GRAPH_INIT;
+    TRY(napi_get_cb_info(env, info, &count, words, NULL, NULL));
+    TRY(bytes_of(env, words[0], &settings, &length));
+    joravelsu_graph *graph = malloc(sizeof *graph);
+    if (!graph)
+        return out_of_memory(env);
+    *graph = none;
+    uint32_t status = joravelsu_graph_new(settings, length, graph, line, sizeof line, &needed);
+    if (status != JORAVELSU_DONE) {
+        free(graph);
+        if (status == JORAVELSU_NO_MEMORY)
+            return out_of_memory(env);
+        TRY(napi_create_string_utf8(env, (char *)line, needed <= sizeof line ? needed : 0, &result));
+        return result;
+    }
+    if (napi_create_external(env, graph, free_graph, NULL, &result) != napi_ok) {
+        free_graph(env, graph, NULL);
+        return NULL;
+    }
+    return result;
+}
+
+static napi_status graph_of(napi_env env, napi_value value, joravelsu_graph **graph)
+{
+    void *data = NULL;
+    napi_status status = napi_get_value_external(env, value, &data);
+    *graph = data;
+    return status;
+}
+
+static napi_value numbers_of(napi_env env, const double *numbers, uint32_t count)
+{
+    napi_value list, number;
+    TRY(napi_create_array_with_length(env, count, &list));
+    for (uint32_t i = 0; i < count; i++) {
+        TRY(napi_create_double(env, numbers[i], &number));
+        TRY(napi_set_element(env, list, i, number));
+    }
+    return list;
+}
+
+/* graphPoll(graph): [status, seen] */
+static napi_value graph_poll(napi_env env, napi_callback_info info)
+{
+    size_t count = 1, seen = 0;
+    napi_value words[1];
+    joravelsu_graph *graph;
+    TRY(napi_get_cb_info(env, info, &count, words, NULL, NULL));
+    TRY(graph_of(env, words[0], &graph));
+    uint32_t status = joravelsu_graph_poll(graph, &seen);
+    if (status == JORAVELSU_NO_MEMORY)
+        return out_of_memory(env);
+    return numbers_of(env, (const double[]){status, (double)seen}, 2);
+}
+
+/* graphWanted(graph, from): [number, specifier], or null */
+static napi_value graph_wanted(napi_env env, napi_callback_info info)
+{
+    size_t count = 2, room = 4096;
+    int64_t from;
+    napi_value words[2], list, word;
+    joravelsu_graph *graph;
+    joravelsu_wanted wanted;
+    TRY(napi_get_cb_info(env, info, &count, words, NULL, NULL));
+    TRY(graph_of(env, words[0], &graph));
+    TRY(napi_get_value_int64(env, words[1], &from));
+    for (;; room = wanted.needed) {
+        uint8_t *name = malloc(room + 1);
+        if (!name)
+            return out_of_memory(env);
+        uint32_t status = joravelsu_graph_wanted(graph, (size_t)from, name, room, &wanted);
+        napi_status made = status == JORAVELSU_DONE ? napi_create_string_utf8(env, (char *)name, wanted.needed, &word)
+                                                     : napi_get_null(env, &word);
+        free(name);
+        TRY(made);
+        if (status == JORAVELSU_NO_ROOM)
+            continue;
+        if (status != JORAVELSU_DONE)
+            return word;
+        TRY(napi_create_array_with_length(env, 2, &list));
+        TRY(napi_set_element(env, list, 1, word));
+        TRY(napi_create_double(env, (double)wanted.number, &word));
+        TRY(napi_set_element(env, list, 0, word));
+        return list;
+    }
+}
+
+/* graphAnswer(graph, number, kind, bytes, contentType): a status */
+static napi_value graph_answer(napi_env env, napi_callback_info info)
+{
+    size_t count = 5, length, type_length;
+    int64_t number;
+    uint32_t kind;
+    napi_value words[5], result;
+    joravelsu_graph *graph;
+    const uint8_t *bytes, *type;
+    TRY(napi_get_cb_info(env, info, &count, words, NULL, NULL));
+    TRY(graph_of(env, words[0], &graph));
+    TRY(napi_get_value_int64(env, words[1], &number));
+    TRY(napi_get_value_uint32(env, words[2], &kind));
+    TRY(bytes_of(env, words[3], &bytes, &length));
+    TRY(bytes_of(env, words[4], &type, &type_length));
+    uint32_t status = joravelsu_graph_answer(graph, (size_t)number, kind, bytes, length, type, type_length);
+    if (status == JORAVELSU_NO_MEMORY)
+        return out_of_memory(env);
+    TRY(napi_create_uint32(env, status, &result));
+    return result;
+}
+
+static napi_value edge_of(napi_env env, const joravelsu_edge *edge, const uint8_t *texts)
+{
+    napi_value object, flag;
+    TRY(napi_create_object(env, &object));
+    TRY(put_number(env, object, "kind", edge->kind));
+    TRY(napi_get_boolean(env, edge->type_only, &flag));
+    TRY(napi_set_named_property(env, object, "typeOnly", flag));
+    TRY(put_number(env, object, "start", (double)edge->start));
+    TRY(put_number(env, object, "end", (double)edge->end));
+    TRY(put_text(env, object, "value", texts, edge->value_start, edge->value_end));
+    TRY(put_number(env, object, "has", edge->attribute));
+    TRY(put_text(env, object, "attribute", texts, edge->value_end, edge->attribute_end));
+    TRY(put_text(env, object, "targetSpecifier", texts, edge->attribute_end, edge->target_end));
+    TRY(put_number(env, object, "target", edge->target == JORAVELSU_NONE ? -1 : (double)edge->target));
+    TRY(put_number(env, object, "fault", edge->fault));
+    return object;
+}
+
+static napi_value entry_of(napi_env env, const joravelsu_entry *entry, const joravelsu_edge *edges, const uint8_t *texts)
+{
+    napi_value object, list;
+    TRY(napi_create_object(env, &object));
+    TRY(put_number(env, object, "state", entry->state));
+    TRY(put_number(env, object, "mediaType", entry->media_type));
+    TRY(put_number(env, object, "fault", entry->fault));
+    TRY(put_number(env, object, "place", (double)entry->place));
+    TRY(put_number(env, object, "size", (double)entry->size));
+    TRY(put_text(env, object, "specifier", texts, 0, entry->specifier_end));
+    TRY(put_text(env, object, "targetSpecifier", texts, entry->specifier_end, entry->target_end));
+    TRY(put_number(env, object, "target", entry->target == JORAVELSU_NONE ? -1 : (double)entry->target));
+    TRY(napi_create_array_with_length(env, entry->edges, &list));
+    for (size_t i = 0; i < entry->edges; i++) {
+        napi_value edge = edge_of(env, &edges[i], texts);
+        if (!edge)
+            return NULL;
+        TRY(napi_set_element(env, list, (uint32_t)i, edge));
+    }
+    TRY(napi_set_named_property(env, object, "edges", list));
+    return object;
+}
+
+/* graphEntry(graph, number): an object, or null */
+static napi_value graph_entry(napi_env env, napi_callback_info info)
+{
+    size_t count = 2;
+    int64_t number;
+    napi_value words[2], result;
+    joravelsu_graph *graph;
+    joravelsu_entry entry = {.edges = 16, .text_bytes = 2048};
+    uint32_t status = JORAVELSU_NO_ROOM;
+    TRY(napi_get_cb_info(env, info, &count, words, NULL, NULL));
+    TRY(graph_of(env, words[0], &graph));
+    TRY(napi_get_value_int64(env, words[1], &number));
+    TRY(napi_get_null(env, &result));
+    while (status == JORAVELSU_NO_ROOM) {
+        size_t room = entry.edges, text_room = entry.text_bytes;
+        joravelsu_edge *edges = calloc(room + 1, sizeof *edges);
+        uint8_t *texts = malloc(text_room + 1);
+        status = edges && texts ? joravelsu_graph_entry(graph, (size_t)number, edges, room, texts, text_room, &entry)
+                                : JORAVELSU_NO_MEMORY;
+        if (status == JORAVELSU_DONE)
+            result = entry_of(env, &entry, edges, texts);
+        free(edges);
+        free(texts);
+    }
+    return status == JORAVELSU_NO_MEMORY ? out_of_memory(env) : result;
+}
+
+/* graphPlace(graph, number, byte): [line, column], or null */
+static napi_value graph_place(napi_env env, napi_callback_info info)
+{
+    size_t count = 3;
+    int64_t number, byte;
+    napi_value words[3], none;
+    joravelsu_graph *graph;
+    joravelsu_place place;
+    TRY(napi_get_cb_info(env, info, &count, words, NULL, NULL));
+    TRY(graph_of(env, words[0], &graph));
+    TRY(napi_get_value_int64(env, words[1], &number));
+    TRY(napi_get_value_int64(env, words[2], &byte));
+    TRY(napi_get_null(env, &none));
+    uint32_t status = joravelsu_graph_place(graph, (size_t)number, (size_t)byte, &place);
+    if (status == JORAVELSU_NO_MEMORY)
+        return out_of_memory(env);
+    return status == JORAVELSU_DONE ? numbers_of(env, (const double[]){(double)place.line, (double)place.column}, 2) : none;
+}
+
 static napi_value version(napi_env env, napi_callback_info info)
 {
     napi_value number;
@@ -270,6 +482,12 @@ NAPI_MODULE_INIT()
         {"rewrite", NULL, rewrite, NULL, NULL, NULL, napi_default, NULL},
         {"exports", NULL, exports_of, NULL, NULL, NULL, napi_default, NULL},
         {"report", NULL, report, NULL, NULL, NULL, napi_default, NULL},
+        {"graphNew", NULL, graph_new, NULL, NULL, NULL, napi_default, NULL},
+        {"graphPoll", NULL, graph_poll, NULL, NULL, NULL, napi_default, NULL},
+        {"graphWanted", NULL, graph_wanted, NULL, NULL, NULL, napi_default, NULL},
+        {"graphAnswer", NULL, graph_answer, NULL, NULL, NULL, napi_default, NULL},
+        {"graphEntry", NULL, graph_entry, NULL, NULL, NULL, napi_default, NULL},
+        {"graphPlace", NULL, graph_place, NULL, NULL, NULL, napi_default, NULL},
         {"version", NULL, version, NULL, NULL, NULL, napi_default, NULL},
     };
     TRY(napi_define_properties(env, exports, sizeof calls / sizeof *calls, calls));

@@ -97,5 +97,91 @@ export { exportsOf as exports };
  */
 export function report(bundle: Bundle | string | Uint8Array): string;
 
+/** What a loader returns: the module, where it is, or that it's external, couldn't be loaded, or isn't there (null). */
+export type Answer =
+  | string | Uint8Array | null | undefined
+  | { body: string | Uint8Array; contentType?: string }
+  | { redirect: string } | { external: true } | { failed: true };
+
+export interface Edge {
+  kind: Site["kind"] | "wasm";
+  typeOnly: boolean;
+  start: number;
+  end: number;
+  value: string;
+  attribute: string | null | undefined;
+  /** The number of the entry that it leads to; null if it has a fault, or isn't followed. */
+  target: number | null;
+  targetSpecifier: string | null;
+  fault:
+    | "ImportPrefixMissing" | "InvalidUrl" | "InvalidDowngrade" | "InvalidLocalImport" | "InvalidTypeAssertion"
+    | "InvalidSourcePhase" | "Refused" | null;
+}
+
+export interface Entry {
+  number: number;
+  specifier: string;
+  state: "module" | "redirect" | "package" | "external" | "error";
+  mediaType:
+    | MediaType | "Jsonc" | "Json5" | "Css" | "Html" | "Markdown" | "Sql" | "SourceMap" | "Unknown" | null;
+  /** How many bytes a module has, without a byte order mark. */
+  size: number;
+  target: number | null;
+  targetSpecifier: string | null;
+  fault:
+    | "Missing" | "Loading" | "TooManyRedirects" | "UnsupportedMediaType" | "Decode" | "Parse" | "WasmParse" | "DataUrl"
+    | "PackageReference" | null;
+  /** Of the fault Parse the byte where it is. */
+  place: number | null;
+  edges: Edge[];
+}
+
+/** The choices of a bundle: docs/REPORT.md. */
+export type Options = Pick<Bundle, "kind" | "limit" | "skipDynamicDeps" | "imports" | "importMap">;
+
+/** More is reached than the limit allows. */
+export class TooManyModules extends Error {
+  readonly seen: number;
+}
+
+/** Why an answer isn't taken. Nothing has changed. */
+export class AnswerError extends Error {
+  readonly status: number;
+}
+
+/** A graph under construction, for a loop of one's own: poll, look at what is wanted, answer, and poll again. */
+export class Builder {
+  constructor(roots: string[], options?: Options);
+  /** Asks for all that is reached by the answers so far; true once the graph is there. */
+  poll(): boolean;
+  /** The requests from a number on that have no answer yet, each with its specifier. */
+  wanted(from?: number): Generator<[number, string]>;
+  answer(number: number, answer: Answer): void;
+  entry(number: number): Entry | null;
+  /** Line and column, from 1, of a byte in the text of a module: columns count characters. */
+  place(number: number, byte: number): [number, number] | null;
+}
+
+/** The graph of all that is reached from some roots. */
+export class Graph {
+  constructor(builder: Builder);
+  /** By their numbers, the different roots first. */
+  readonly entries: Entry[];
+  get(specifier: string): Entry | undefined;
+  /** Where the redirects from a specifier lead, over ten of them at most. */
+  resolve(specifier: string): Entry | undefined;
+  place(entry: Entry, byte: number): [number, number] | null;
+}
+
+/**
+ * Calls the loader once for each specifier that is reached, without waiting for the others, and returns their graph.
+ * @example await build(["file:///a.ts"], async (url) => readFile(new URL(url)))
+ */
+export function build(
+  roots: string[],
+  loader: (specifier: string) => Answer | Promise<Answer>,
+  options?: Options,
+): Promise<Graph>;
+
 /** The version of the library: 0.1.0 is [0, 1, 0]. */
 export function version(): [number, number, number];

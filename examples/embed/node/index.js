@@ -119,9 +119,167 @@ function report(bundle) {
   return result.text;
 }
 
+// ---- a graph whose loads the caller does
+
+const ALL_MEDIA_TYPES = [...MEDIA_TYPES, "Jsonc", "Json5", "Css", "Html", "Markdown", "Sql", "SourceMap", "Unknown", null];
+const STATES = ["module", "redirect", "package", "external", "error"];
+const FAULTS = [
+  null, "Missing", "Loading", "TooManyRedirects", "UnsupportedMediaType", "Decode", "Parse", "WasmParse", "DataUrl",
+  "PackageReference",
+];
+const EDGE_FAULTS = [
+  null, "ImportPrefixMissing", "InvalidUrl", "InvalidDowngrade", "InvalidLocalImport", "InvalidTypeAssertion",
+  "InvalidSourcePhase", "Refused",
+];
+const ANSWERS = {
+  7: "a header isn't UTF-8",
+  20: "no request has this number",
+  21: "the request was answered before",
+  22: "no answer is of this kind",
+  23: "the redirect's target is no URL",
+};
+const [TOO_MANY_MODULES, NOT_YET] = [1, 16];
+const NOTHING = new Uint8Array(0);
+
+/** More is reached than the limit allows; `seen` were counted. */
+class TooManyModules extends Error {
+  constructor(seen) {
+    super(`over the limit: ${seen} specifiers are reached`);
+    this.name = "TooManyModules";
+    this.seen = seen;
+  }
+}
+
+/** Why an answer isn't taken. Nothing has changed. */
+class AnswerError extends Error {
+  constructor(status) {
+    super(ANSWERS[status] ?? `status ${status}`);
+    this.name = "AnswerError";
+    this.status = status;
+  }
+}
+
+// The kind, the bytes and the content type of what a loader returned.
+function answerOf(answer) {
+  if (answer === null || answer === undefined) return [3, NOTHING, NOTHING];
+  if (typeof answer === "string" || answer instanceof Uint8Array) return [0, bytesOf(answer), NOTHING];
+  if (answer === "external" || answer.external === true) return [2, NOTHING, NOTHING];
+  if (answer.failed === true) return [4, NOTHING, NOTHING];
+  if (answer.redirect !== undefined) return [1, bytesOf(answer.redirect), NOTHING];
+  return [0, bytesOf(answer.body), bytesOf(answer.contentType ?? "")];
+}
+
+const orNull = (number) => (number < 0 ? null : number);
+
+/** A graph under construction, for a loop of one's own. */
+class Builder {
+  #graph;
+
+  constructor(roots, options = {}) {
+    this.#graph = addon.graphNew(bytesOf(JSON.stringify({ roots, ...options, modules: [] })));
+    if (typeof this.#graph === "string") throw new BundleError(this.#graph.trim());
+  }
+
+  poll() {
+    const [status, seen] = addon.graphPoll(this.#graph);
+    if (status === TOO_MANY_MODULES) throw new TooManyModules(seen);
+    if (status !== 0 && status !== NOT_YET) throw new Error("the graph has ended without a result");
+    return status === 0;
+  }
+
+  *wanted(from = 0) {
+    for (let next = addon.graphWanted(this.#graph, from); next !== null; next = addon.graphWanted(this.#graph, next[0] + 1)) yield next;
+  }
+
+  answer(number, answer) {
+    const status = addon.graphAnswer(this.#graph, number, ...answerOf(answer));
+    if (status !== 0) throw new AnswerError(status);
+  }
+
+  entry(number) {
+    const it = addon.graphEntry(this.#graph, number);
+    if (it === null) return null;
+    const fault = FAULTS[it.fault];
+    return {
+      number,
+      specifier: it.specifier,
+      state: STATES[it.state],
+      mediaType: ALL_MEDIA_TYPES[it.mediaType],
+      size: it.size,
+      target: orNull(it.target),
+      targetSpecifier: it.targetSpecifier || null,
+      fault,
+      place: fault === "Parse" ? it.place : null,
+      edges: it.edges.map((edge) => ({
+        kind: KINDS[edge.kind],
+        typeOnly: edge.typeOnly,
+        start: edge.start,
+        end: edge.end,
+        value: edge.value,
+        attribute: edge.has === 2 ? edge.attribute : edge.has === 1 ? undefined : null,
+        target: orNull(edge.target),
+        targetSpecifier: edge.targetSpecifier || null,
+        fault: EDGE_FAULTS[edge.fault],
+      })),
+    };
+  }
+
+  place(number, byte) {
+    return addon.graphPlace(this.#graph, number, byte);
+  }
+}
+
+/** The graph of all that is reached from some roots. */
+class Graph {
+  #builder;
+  #numbers = new Map();
+
+  constructor(builder) {
+    this.#builder = builder;
+    this.entries = [];
+    for (let entry = builder.entry(0); entry !== null; entry = builder.entry(this.entries.length)) {
+      this.#numbers.set(entry.specifier, entry.number);
+      this.entries.push(entry);
+    }
+  }
+
+  get(specifier) {
+    return this.entries[this.#numbers.get(specifier)];
+  }
+
+  resolve(specifier) {
+    let entry = this.get(specifier);
+    for (let i = 0; i < 10 && entry?.state === "redirect" && entry.target !== null; i++) entry = this.entries[entry.target];
+    return entry;
+  }
+
+  place(entry, byte) {
+    return this.#builder.place(entry.number, byte);
+  }
+}
+
+async function build(roots, loader, options = {}) {
+  const builder = new Builder(roots, options);
+  const loads = new Map();
+  let from = 0;
+  while (!builder.poll()) {
+    for (const [number, specifier] of builder.wanted(from)) {
+      loads.set(number, Promise.resolve(loader(specifier)).then((answer) => [number, answer]));
+      from = number + 1;
+    }
+    const [number, answer] = await Promise.race(loads.values());
+    loads.delete(number);
+    builder.answer(number, answer);
+  }
+  return new Graph(builder);
+}
+
 function version() {
   const number = addon.version();
   return [Math.floor(number / 10000), Math.floor(number / 100) % 100, number % 100];
 }
 
-module.exports = { sites, unread, rewrite, exports: exportsOf, report, version, SourceError, ChangeError, BundleError };
+module.exports = {
+  sites, unread, rewrite, exports: exportsOf, build, report, version,
+  Builder, Graph, SourceError, ChangeError, BundleError, AnswerError, TooManyModules,
+};

@@ -1,6 +1,9 @@
 import joravelsu from "./index.js";
 
-export const { sites, unread, rewrite, report, version, SourceError, ChangeError, BundleError } = joravelsu;
+export const {
+  sites, unread, rewrite, build, report, version,
+  Builder, Graph, SourceError, ChangeError, BundleError, AnswerError, TooManyModules,
+} = joravelsu;
 const exportsOf = joravelsu.exports;
 export { exportsOf as exports };
 export default joravelsu;

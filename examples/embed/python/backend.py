@@ -1,4 +1,4 @@
-"""Builds the wheel of the module, which is one file, without any package: pip install ./examples/embed/python"""
+"""Builds the wheel of the module, as a package with its types, without any other package: pip install ./examples/embed/python"""
 import base64
 import hashlib
 import os
@@ -20,8 +20,9 @@ def write_wheel(folder, version, library=None):
     with open(os.path.join(HERE, f"{NAME}.py"), "rb") as file:
         module = file.read()
     files = {
-        f"{NAME}.py": module,
-        **({"libjoravelsu.so": library} if library else {}),
+        f"{NAME}/__init__.py": module,
+        f"{NAME}/py.typed": b"",
+        **({f"{NAME}/libjoravelsu.so": library} if library else {}),
         f"{info}/METADATA": f"Metadata-Version: 2.1\nName: {NAME}\nVersion: {version}\nRequires-Python: >=3.8\n".encode(),
         f"{info}/WHEEL": f"Wheel-Version: 1.0\nGenerator: backend\nRoot-Is-Purelib: {str(not library).lower()}\nTag: {tag}\n".encode(),
     }

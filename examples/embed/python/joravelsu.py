@@ -18,7 +18,10 @@ from __future__ import annotations
 import ctypes
 import json
 import os
-from typing import NamedTuple
+import struct
+import threading
+import weakref
+from typing import Any, Awaitable, Callable, Iterator, NamedTuple, Sequence, Union
 
 DTS, DMTS, DCTS, TYPESCRIPT, MTS, CTS, TSX, JAVASCRIPT, MJS, CJS, JSX, JSON, WASM = range(13)
 
@@ -110,7 +113,11 @@ class ChangeError(ValueError):
 
 
 class BundleError(ValueError):
-    """Why a bundle has no graph: the line that the program writes for it."""
+    """Why a bundle has no graph: the line that the program writes for it. `status` is the library's."""
+
+    def __init__(self, line: str, status: int = 2):
+        super().__init__(line)
+        self.status = status
 
 
 class _Site(ctypes.Structure):
@@ -125,6 +132,10 @@ class _Site(ctypes.Structure):
         ("attribute_start", ctypes.c_size_t),
         ("attribute_end", ctypes.c_size_t),
     ]
+
+
+# The fields of a record as a tuple, which is quicker to read than they are one by one.
+_SITE = struct.Struct("@I?NNNNINN0N")
 
 
 class _Answer(ctypes.Structure):
@@ -171,6 +182,52 @@ class _ExportsAnswer(ctypes.Structure):
     ]
 
 
+class _Handle(ctypes.Structure):
+    _fields_ = [("live", ctypes.c_bool), ("at", ctypes.c_void_p)]
+
+
+class _Wanted(ctypes.Structure):
+    _fields_ = [("number", ctypes.c_size_t), ("needed", ctypes.c_size_t)]
+
+
+class _Entry(ctypes.Structure):
+    _fields_ = [
+        ("state", ctypes.c_uint32),
+        ("media_type", ctypes.c_uint32),
+        ("fault", ctypes.c_uint32),
+        ("place", ctypes.c_size_t),
+        ("size", ctypes.c_size_t),
+        ("specifier_end", ctypes.c_size_t),
+        ("target_end", ctypes.c_size_t),
+        ("target", ctypes.c_size_t),
+        ("edges", ctypes.c_size_t),
+        ("text_bytes", ctypes.c_size_t),
+    ]
+
+
+class _Edge(ctypes.Structure):
+    _fields_ = [
+        ("kind", ctypes.c_uint32),
+        ("type_only", ctypes.c_bool),
+        ("start", ctypes.c_size_t),
+        ("end", ctypes.c_size_t),
+        ("value_start", ctypes.c_size_t),
+        ("value_end", ctypes.c_size_t),
+        ("attribute", ctypes.c_uint32),
+        ("attribute_end", ctypes.c_size_t),
+        ("target_end", ctypes.c_size_t),
+        ("target", ctypes.c_size_t),
+        ("fault", ctypes.c_uint32),
+    ]
+
+
+_EDGE = struct.Struct("@I?NNNNINNNI0N")
+
+
+class _Place(ctypes.Structure):
+    _fields_ = [("line", ctypes.c_size_t), ("column", ctypes.c_size_t)]
+
+
 def _load() -> ctypes.CDLL:
     beside = os.path.join(os.path.dirname(os.path.abspath(__file__)), "libjoravelsu.so")
     path = os.environ.get("JORAVELSU_LIBRARY") or (beside if os.path.exists(beside) else "libjoravelsu.so")
@@ -192,6 +249,17 @@ def _load() -> ctypes.CDLL:
     names = [ctypes.POINTER(_Name), size, text, size]
     library.joravelsu_exports.argtypes = [text, size, ctypes.c_uint32, ctypes.c_uint32, *names, ctypes.POINTER(_ExportsAnswer)]
     library.joravelsu_exports.restype = ctypes.c_uint32
+    graph = ctypes.POINTER(_Handle)
+    library.joravelsu_graph_new.argtypes = [text, size, graph, text, size, ctypes.POINTER(size)]
+    library.joravelsu_graph_poll.argtypes = [graph, ctypes.POINTER(size)]
+    library.joravelsu_graph_wanted.argtypes = [graph, size, text, size, ctypes.POINTER(_Wanted)]
+    library.joravelsu_graph_answer.argtypes = [graph, size, ctypes.c_uint32, text, size, text, size]
+    library.joravelsu_graph_entry.argtypes = [graph, size, ctypes.POINTER(_Edge), size, text, size, ctypes.POINTER(_Entry)]
+    library.joravelsu_graph_place.argtypes = [graph, size, size, ctypes.POINTER(_Place)]
+    for name in ("new", "poll", "wanted", "answer", "entry", "place"):
+        getattr(library, f"joravelsu_graph_{name}").restype = ctypes.c_uint32
+    library.joravelsu_graph_free.argtypes = [graph]
+    library.joravelsu_graph_free.restype = None
     library.joravelsu_version.argtypes = []
     library.joravelsu_version.restype = ctypes.c_uint32
     return library
@@ -210,14 +278,37 @@ def _refused(status: int, place: int) -> SourceError:
     return SourceError(status, place if status == _NO_UTF8 or status >= 10 else None)
 
 
-def _text_of(held: bytes, start: int, end: int) -> str:
-    return held[start:end].decode()
+class _Texts:
+    """Texts in one buffer, each by its bytes."""
+
+    def __init__(self, buffer: Any, length: int):
+        self.held = ctypes.string_at(buffer, length)
+        self.text = self.held.decode()
+        self.is_ascii = len(self.text) == length
+
+    def __call__(self, start: int, end: int) -> str:
+        return self.text[start:end] if self.is_ascii else self.held[start:end].decode()
 
 
-def _attribute_of(it: _Site, held: bytes) -> str | Unknown | None:
-    if it.attribute == _NAMED:
-        return _text_of(held, it.attribute_start, it.attribute_end)
-    return UNKNOWN if it.attribute else None
+class _Room(threading.local):
+    """The buffers for the sites of a text, of each thread its own; they are kept between calls."""
+
+    def __init__(self) -> None:
+        self.resize(64, 4096)
+
+    def resize(self, sites: int, values: int) -> None:
+        self.sites, self.values = (_Site * sites)(), ctypes.create_string_buffer(values)
+
+
+_room = _Room()
+
+
+def _sites_in(room: _Room, answer: _Answer) -> Iterator[Site]:
+    text = _Texts(room.values, answer.value_bytes)
+    records = ctypes.string_at(room.sites, answer.sites * _SITE.size)
+    for kind, type_only, start, end, value_start, value_end, has, attribute_start, attribute_end in _SITE.iter_unpack(records):
+        attribute = text(attribute_start, attribute_end) if has == _NAMED else UNKNOWN if has else None
+        yield Site(_KINDS[kind], type_only, start, end, text(value_start, value_end), attribute)
 
 
 def imports_of(text: str | bytes, media_type: int) -> list[Site]:
@@ -226,24 +317,18 @@ def imports_of(text: str | bytes, media_type: int) -> list[Site]:
     Places are bytes of the text in UTF-8, behind a byte order mark where one stands in front.
     """
     source = text.encode() if isinstance(text, str) else bytes(text)
-    answer = _Answer()
-    sites_length, values_length = 64, 4096
+    answer, room = _Answer(), _room
     while True:
-        sites, values = (_Site * sites_length)(), ctypes.create_string_buffer(values_length)
         status = _library.joravelsu_sites(
-            source, len(source), media_type, sites, sites_length, values, values_length, ctypes.byref(answer)
+            source, len(source), media_type, room.sites, len(room.sites), room.values, len(room.values), ctypes.byref(answer)
         )
         if status == _NO_MEMORY:
             raise MemoryError
         if status == _DONE:
-            held = values.raw
-            return [
-                Site(_KINDS[it.kind], it.type_only, it.start, it.end, _text_of(held, it.value_start, it.value_end), _attribute_of(it, held))
-                for it in sites[: answer.sites]
-            ]
+            return list(_sites_in(room, answer))
         if status != _NO_ROOM:
             raise _refused(status, answer.place)
-        sites_length, values_length = answer.sites, answer.value_bytes
+        room.resize(max(answer.sites, len(room.sites)), max(answer.value_bytes, len(room.values)))
 
 
 def unread_in(text: str | bytes) -> list[Call]:
@@ -315,8 +400,8 @@ def exports_of(text: str | bytes, media_type: int, common_js: bool = False) -> E
         if status == _NO_MEMORY:
             raise MemoryError
         if status == _DONE:
-            held = values.raw
-            told = [_text_of(held, it.start, it.end) for it in names[: answer.exports + answer.reexports]]
+            text = _Texts(values, answer.value_bytes)
+            told = [text(it.start, it.end) for it in names[: answer.exports + answer.reexports]]
             return Exports(told[: answer.exports], told[answer.exports :])
         if status != _NO_ROOM:
             raise _refused(status, answer.place)
@@ -345,5 +430,401 @@ def graph(bundle: str | bytes | dict) -> str:
             continue
         report = buffer.raw[: needed.value].decode()
         if status != _DONE:
-            raise BundleError(report.strip())
+            raise BundleError(report.strip(), status)
         return report
+
+
+# ---- a graph whose loads the caller does
+
+_NOT_YET, _TOO_MANY, _ENDED, _NONE_WANTED, _NO_ENTRY = 16, 1, 17, 19, 24
+_NONE = ctypes.c_size_t(-1).value
+_MEDIA_TYPES = ("Dts", "Dmts", "Dcts", "TypeScript", "Mts", "Cts", "Tsx", "JavaScript", "Mjs", "Cjs", "Jsx", "Json", "Wasm",
+                "Jsonc", "Json5", "Css", "Html", "Markdown", "Sql", "SourceMap", "Unknown", None)
+_STATES = ("module", "redirect", "package", "external", "error")
+_FAULTS = (None, "Missing", "Loading", "TooManyRedirects", "UnsupportedMediaType", "Decode", "Parse", "WasmParse", "DataUrl",
+           "PackageReference", "OutOfMemory")
+_EDGE_FAULTS = (None, "ImportPrefixMissing", "InvalidUrl", "InvalidDowngrade", "InvalidLocalImport", "InvalidTypeAssertion",
+                "InvalidSourcePhase", "Refused")
+_ANSWERS = {
+    20: "no request has this number",
+    21: "the request was answered before",
+    22: "no answer is of this kind",
+    23: "the redirect's target is no URL",
+    7: "a header isn't UTF-8",
+}
+
+
+class Content(NamedTuple):
+    """An answer: the module itself."""
+
+    body: bytes
+    content_type: str = ""
+    """The value of the header content-type, if there is one."""
+
+
+class Redirect(NamedTuple):
+    """An answer: the module is at another URL."""
+
+    to: str
+
+
+class _Other(NamedTuple):
+    kind: int
+    name: str
+
+    def __repr__(self) -> str:
+        return self.name
+
+
+EXTERNAL = _Other(2, "EXTERNAL")
+"""An answer: the module isn't part of the graph's sources."""
+ABSENT = _Other(3, "ABSENT")
+"""An answer: there is no such module. None means the same."""
+FAILED = _Other(4, "FAILED")
+"""An answer: it couldn't be loaded."""
+
+Answer = Union[Content, Redirect, _Other, bytes, str, None]
+"""What a loader returns: bytes and text are Content."""
+
+
+class Edge(NamedTuple):
+    """A reference of a module to another one."""
+
+    kind: str
+    type_only: bool
+    start: int
+    """The string literal in the module, with its quotes: its first byte."""
+    end: int
+    value: str
+    attribute: str | Unknown | None
+    target: int | None
+    """The number of the entry that it leads to. None if it has none: it has a fault, or isn't followed."""
+    target_specifier: str | None
+    fault: str | None
+
+
+class Entry(NamedTuple):
+    """What a graph has for a specifier."""
+
+    number: int
+    specifier: str
+    state: str
+    """module, redirect, package, external or error."""
+    media_type: str | None
+    size: int
+    """How many bytes a module has, without a byte order mark."""
+    target: int | None
+    """Of a redirect the number of the entry that it leads to."""
+    target_specifier: str | None
+    fault: str | None
+    place: int | None
+    """Of the fault Parse the byte where it is."""
+    edges: list[Edge]
+
+
+class TooManyModules(ValueError):
+    """More is reached than the limit allows; `seen` were counted."""
+
+    def __init__(self, seen: int):
+        super().__init__(f"over the limit: {seen} specifiers are reached")
+        self.seen = seen
+
+
+class AnswerError(ValueError):
+    """Why an answer isn't taken. `status` is the library's. Nothing has changed."""
+
+    def __init__(self, status: int):
+        super().__init__(_ANSWERS.get(status, f"status {status}"))
+        self.status = status
+
+
+def _settings(roots: Sequence[str], options: dict[str, Any]) -> bytes:
+    return json.dumps({"roots": list(roots), **options, "modules": []}).encode()
+
+
+class Builder:
+    """A graph under construction, for a loop of your own: poll, look at what is wanted, answer, and poll again.
+
+    >>> builder = Builder(["file:///a.ts"])
+    >>> builder.poll()
+    False
+    >>> list(builder.wanted())
+    [(0, 'file:///a.ts')]
+    >>> builder.answer(0, b'export let a;')
+    >>> builder.poll()
+    True
+    >>> builder.entry(0).media_type
+    'TypeScript'
+    """
+
+    def __init__(self, roots: Sequence[str], **options: Any):
+        """`options` are those of a bundle (docs/REPORT.md): kind, limit, skipDynamicDeps, imports and importMap."""
+        self._handle = _Handle()
+        self._room = (_Edge * 64)(), ctypes.create_string_buffer(4096)
+        weakref.finalize(self, _library.joravelsu_graph_free, self._handle)
+        settings, line, needed = _settings(roots, options), ctypes.create_string_buffer(4096), ctypes.c_size_t()
+        status = _library.joravelsu_graph_new(settings, len(settings), self._handle, line, 4096, ctypes.byref(needed))
+        if status == _NO_MEMORY:
+            raise MemoryError
+        if status != _DONE:
+            raise BundleError(line.raw[: min(needed.value, 4096)].decode().strip())
+
+    def poll(self) -> bool:
+        """Asks for all that is reached by the answers so far. True: each is answered, and the graph is there."""
+        seen = ctypes.c_size_t()
+        status = _library.joravelsu_graph_poll(self._handle, ctypes.byref(seen))
+        if status == _NO_MEMORY:
+            raise MemoryError
+        if status == _TOO_MANY:
+            raise TooManyModules(seen.value)
+        if status == _ENDED:
+            raise RuntimeError("the graph has ended without a result")
+        return status == _DONE
+
+    def wanted(self, start: int = 0) -> Iterator[tuple[int, str]]:
+        """The requests from this number on that have no answer yet, each with its specifier."""
+        text, wanted = ctypes.create_string_buffer(1024), _Wanted()
+        while True:
+            status = _library.joravelsu_graph_wanted(self._handle, start, text, len(text), ctypes.byref(wanted))
+            if status == _NO_ROOM:
+                text = ctypes.create_string_buffer(wanted.needed)
+                continue
+            if status == _NONE_WANTED:
+                return
+            yield wanted.number, ctypes.string_at(text, wanted.needed).decode()
+            start = wanted.number + 1
+
+    def answer(self, number: int, answer: Answer) -> None:
+        """Answers the request with this number. Raises AnswerError if it wasn't made, or was answered before."""
+        if answer is None:
+            answer = ABSENT
+        if isinstance(answer, str):
+            answer = answer.encode()
+        if isinstance(answer, (bytes, bytearray, memoryview)):
+            answer = Content(bytes(answer))
+        body, content_type, kind = b"", b"", 0
+        if isinstance(answer, Content):
+            body, content_type = answer.body, answer.content_type.encode()
+        elif isinstance(answer, Redirect):
+            body, kind = answer.to.encode(), 1
+        else:
+            kind = answer.kind
+        status = _library.joravelsu_graph_answer(self._handle, number, kind, body, len(body), content_type, len(content_type))
+        if status == _NO_MEMORY:
+            raise MemoryError
+        if status != _DONE:
+            raise AnswerError(status)
+
+    def entry(self, number: int) -> Entry:
+        """The entry with this number. Raises IndexError if there is none."""
+        told = _Entry()
+        while True:
+            edges, texts = self._room
+            status = _library.joravelsu_graph_entry(self._handle, number, edges, len(edges), texts, len(texts), ctypes.byref(told))
+            if status == _NO_MEMORY:
+                raise MemoryError
+            if status == _NO_ROOM:
+                self._room = (_Edge * max(told.edges, len(edges)))(), ctypes.create_string_buffer(max(told.text_bytes, len(texts)))
+                continue
+            if status != _DONE:
+                raise IndexError(number)
+            return _entry_of(number, told, edges, _Texts(texts, told.text_bytes))
+
+    def place(self, number: int, byte: int) -> tuple[int, int]:
+        """Line and column, from 1, of a byte in the text of the module with this number: columns count characters."""
+        shown = _Place()
+        status = _library.joravelsu_graph_place(self._handle, number, byte, ctypes.byref(shown))
+        if status == _NO_MEMORY:
+            raise MemoryError
+        if status != _DONE:
+            raise ValueError("there is no such place, or no text")
+        return shown.line, shown.column
+
+
+def _number(number: int) -> int | None:
+    return None if number == _NONE else number
+
+
+def _edges_in(records: bytes, text: _Texts) -> Iterator[Edge]:
+    for kind, type_only, start, end, value_start, value_end, has, attribute_end, target_end, target, fault in _EDGE.iter_unpack(records):
+        attribute = text(value_end, attribute_end) if has == _NAMED else UNKNOWN if has else None
+        yield Edge(_KINDS[kind], type_only, start, end, text(value_start, value_end), attribute,
+                   None if target == _NONE else target, text(attribute_end, target_end) or None, _EDGE_FAULTS[fault])
+
+
+def _entry_of(number: int, told: _Entry, edges: Any, text: _Texts) -> Entry:
+    fault = _FAULTS[told.fault]
+    records = ctypes.string_at(edges, told.edges * _EDGE.size)
+    return Entry(
+        number, text(0, told.specifier_end), _STATES[told.state], _MEDIA_TYPES[told.media_type], told.size,
+        _number(told.target), text(told.specifier_end, told.target_end) or None, fault,
+        told.place if fault == "Parse" else None, list(_edges_in(records, text)),
+    )
+
+
+Resolver = Callable[[str, str], Union[str, None]]
+"""Returns the URL of a specifier in the module of a URL; None refuses it."""
+
+
+class _Discovery:
+    """What is reached by a resolver of the caller's, with the answers for it, and the import map that says the same."""
+
+    def __init__(self, roots: Sequence[str], resolver: Resolver, options: dict[str, Any]):
+        if "importMap" in options or "imports" in options:
+            raise ValueError("a resolver takes the place of importMap and imports")
+        self.resolver, self.options = resolver, options
+        self.answers: dict[str, Answer] = {}
+        self.scopes: dict[str, dict[str, str | None]] = {}
+        self.seen: set[str] = set()
+        self.waiting = list(roots)
+
+    def wanted(self) -> Iterator[tuple[str, Builder]]:
+        """What is reached and has no answer yet, each with the builder of its module alone."""
+        while self.waiting and len(self.seen) <= self.options.get("limit", 10_000):
+            root = self.waiting.pop()
+            if root in self.seen:
+                continue
+            self.seen.add(root)
+            builder = Builder([root], limit=1_000_000)
+            if builder.poll():
+                self.resolve(builder)
+                continue
+            for _, specifier in builder.wanted():
+                if specifier == root or specifier not in self.seen:
+                    self.seen.add(specifier)
+                    yield specifier, builder
+                break
+
+    def answer(self, specifier: str, builder: Builder, answer: Answer) -> None:
+        self.answers[specifier] = answer
+        if isinstance(answer, Redirect):
+            self.waiting.append(answer.to)
+            return
+        builder.answer(0, answer)
+        while not builder.poll():
+            for number, _ in builder.wanted(1):
+                builder.answer(number, ABSENT)
+        self.resolve(builder)
+
+    def resolve(self, builder: Builder) -> None:
+        """Asks for each edge of a module, and of the data: URLs in it."""
+        for entry in Graph(builder).entries:
+            for edge in entry.edges:
+                target = self.resolver(edge.value, entry.specifier)
+                key = edge.target_specifier or edge.value
+                if target is not None and key.endswith("/") and not target.endswith("/"):
+                    self.answers[key] = Redirect(target)  # such a key of a map stands for all that is below it
+                else:
+                    self.scopes.setdefault(entry.specifier, {})[key] = target
+                if target is not None and self.may_follow(edge):
+                    self.waiting.append(target)
+
+    def may_follow(self, edge: Edge) -> bool:
+        if edge.kind.startswith("dynamic") and self.options.get("skipDynamicDeps"):
+            return False
+        return not (edge.type_only and self.options.get("kind") == "code")
+
+    def settings(self) -> dict[str, Any]:
+        return {**self.options, "importMap": {"base": "file:///", "map": {"scopes": self.scopes}}}
+
+
+class Graph:
+    """The graph of all that is reached from some roots. `entries` has them by their numbers, the different roots first."""
+
+    def __init__(self, builder: Builder):
+        """The graph of a builder whose poll returned True."""
+        self._builder = builder
+        self.entries: list[Entry] = []
+        while True:
+            try:
+                self.entries.append(builder.entry(len(self.entries)))
+            except IndexError:
+                break
+        self._numbers = {entry.specifier: entry.number for entry in self.entries}
+
+    @classmethod
+    def build(cls, roots: Sequence[str], loader: Callable[[str], Answer], *, resolver: Resolver | None = None, **options: Any) -> Graph:
+        """Calls the loader once for each specifier that is reached, and returns their graph.
+
+        `options` are those of a bundle: kind, limit, skipDynamicDeps, imports and importMap. A `resolver` says what each
+        specifier of a module resolves to, instead of the URL Standard; each module is analysed twice then.
+
+        >>> files = {"file:///a.ts": 'import "./b.ts";', "file:///b.ts": "export {};"}
+        >>> [entry.specifier for entry in Graph.build(["file:///a.ts"], files.get).entries]
+        ['file:///a.ts', 'file:///b.ts']
+        >>> graph = Graph.build(["file:///a.ts"], files.get, resolver=lambda specifier, referrer: "file:///lib/b.ts")
+        >>> [entry.specifier for entry in graph.entries]
+        ['file:///a.ts', 'file:///lib/b.ts']
+        """
+        if resolver:
+            found = _Discovery(roots, resolver, options)
+            for specifier, alone in found.wanted():
+                found.answer(specifier, alone, loader(specifier))
+            return cls.build(roots, found.answers.get, **found.settings())
+        builder, start = Builder(roots, **options), 0
+        while not builder.poll():
+            for number, specifier in list(builder.wanted(start)):
+                builder.answer(number, loader(specifier))
+                start = number + 1
+        return cls(builder)
+
+    @classmethod
+    async def build_async(cls, roots: Sequence[str], loader: Callable[[str], Awaitable[Answer]], *,
+                          resolver: Resolver | None = None, **options: Any) -> Graph:
+        """The same with a loader of asyncio: all loads that are open run at the same time.
+
+        >>> import asyncio
+        >>> async def load(specifier):
+        ...     return b"export {};"
+        >>> asyncio.run(Graph.build_async(["file:///a.ts"], load))["file:///a.ts"].state
+        'module'
+        """
+        import asyncio
+
+        loads: dict[Any, Any] = {}
+        if resolver:
+            found = _Discovery(roots, resolver, options)
+            try:
+                while True:
+                    loads.update({asyncio.ensure_future(loader(specifier)): (specifier, alone) for specifier, alone in found.wanted()})
+                    if not loads:
+                        return cls.build(roots, found.answers.get, **found.settings())
+                    done, _ = await asyncio.wait(loads, return_when=asyncio.FIRST_COMPLETED)
+                    for load in done:
+                        found.answer(*loads.pop(load), load.result())
+            finally:
+                for load in loads:
+                    load.cancel()
+        builder, start = Builder(roots, **options), 0
+        try:
+            while not builder.poll():
+                for number, specifier in list(builder.wanted(start)):
+                    loads[asyncio.ensure_future(loader(specifier))] = number
+                    start = number + 1
+                done, _ = await asyncio.wait(loads, return_when=asyncio.FIRST_COMPLETED)
+                for load in sorted(done, key=loads.__getitem__):
+                    builder.answer(loads.pop(load), load.result())
+        finally:
+            for load in loads:
+                load.cancel()
+        return cls(builder)
+
+    def __getitem__(self, specifier: str) -> Entry:
+        """The entry of a specifier. Raises KeyError if it isn't reached."""
+        return self.entries[self._numbers[specifier]]
+
+    def __contains__(self, specifier: str) -> bool:
+        return specifier in self._numbers
+
+    def resolve(self, specifier: str) -> Entry:
+        """Where the redirects from a specifier lead, over ten of them at most."""
+        entry = self[specifier]
+        for _ in range(10):
+            if entry.state != "redirect" or entry.target is None:
+                break
+            entry = self.entries[entry.target]
+        return entry
+
+    def place(self, entry: Entry, byte: int) -> tuple[int, int]:
+        """Line and column, from 1, of a byte in the entry's text, as that of an edge's start."""
+        return self._builder.place(entry.number, byte)

@@ -1,11 +1,19 @@
 """Tests of the module, and of the calls on bad input: python3 test_joravelsu.py. tools/check-library runs them."""
+import asyncio
 import concurrent.futures
 import ctypes
+import doctest
 import json
 import os
+import tempfile
 import unittest
+import zipfile
 
+import backend
+import folder
 import joravelsu
+import watch
+from joravelsu import AnswerError, Builder, BundleError, Edge, Graph, Redirect, TooManyModules
 
 EXAMPLES = os.path.join(os.path.dirname(os.path.abspath(__file__)), "..", "..", "bundles")
 
@@ -303,6 +311,187 @@ class Graphs(unittest.TestCase):
         needed, buffer = ctypes.c_size_t(), ctypes.create_string_buffer(b"#")
         status = joravelsu._library.joravelsu_build(b"{", 1, buffer, 0, ctypes.byref(needed))
         self.assertEqual((status, needed.value, buffer.raw), (4, len("error NotJson\n"), b"#\0"))
+
+
+FILES = {
+    "file:///a.ts": 'import "./b.ts" with { type: "json" };\n  import("./c");',
+    "file:///b.ts": "{}",
+    "file:///c": Redirect("file:///c.ts"),
+    "file:///c.ts": "é; 1 = 2",
+}
+
+
+class Building(unittest.TestCase):
+    def test_docstrings(self):
+        self.assertEqual(doctest.testmod(joravelsu).failed, 0)
+
+    def test_of_files(self):
+        graph = Graph.build(["file:///a.ts"], FILES.get)
+        self.assertEqual([entry.specifier for entry in graph.entries], list(FILES))
+        first = graph.entries[0]
+        self.assertEqual(first.edges, [
+            Edge("import", False, 7, 15, "./b.ts", "json", None, None, "InvalidTypeAssertion"),
+            Edge("dynamic", False, 48, 53, "./c", None, 2, "file:///c", None),
+        ])
+        self.assertEqual(graph.place(first, 48), (2, 10))
+        last = graph.resolve("file:///c")
+        self.assertEqual((last.state, last.fault, last.place), ("error", "Parse", 4))
+        self.assertIn("file:///c", graph)
+        self.assertNotIn("file:///d", graph)
+
+    def test_many_loads_at_a_time(self):
+        count, most = 0, 0
+
+        async def load(specifier):
+            nonlocal count, most
+            count += 1
+            most = max(most, count)
+            await asyncio.sleep(0.01)
+            count -= 1
+            return "".join(f'import "./{i}.ts";' for i in range(50)) if specifier.endswith("/a.ts") else ""
+
+        graph = asyncio.run(Graph.build_async(["file:///a.ts"], load))
+        self.assertEqual((len(graph.entries), most), (51, 50))
+
+    def test_a_loader_that_raises(self):
+        def load(specifier):
+            raise KeyError(specifier)
+
+        async def load_later(specifier):
+            raise KeyError(specifier)
+
+        self.assertRaises(KeyError, Graph.build, ["file:///a.ts"], load)
+        with self.assertRaises(KeyError):
+            asyncio.run(Graph.build_async(["file:///a.ts"], load_later))
+
+    def refuses(self, status, builder, number, answer):
+        with self.assertRaises(AnswerError) as caught:
+            builder.answer(number, answer)
+        self.assertEqual(caught.exception.status, status)
+
+    def test_answers_that_arent_taken(self):
+        builder = Builder(["file:///a.ts"])
+        self.refuses(20, builder, 0, "")
+        self.assertFalse(builder.poll())
+        self.refuses(23, builder, 0, Redirect("b.ts"))
+        self.refuses(20, builder, 1, "")
+        self.assertEqual(list(builder.wanted()), [(0, "file:///a.ts")])
+        builder.answer(0, 'import "./b.ts";')
+        self.refuses(21, builder, 0, "")
+        self.assertEqual(list(builder.wanted()), [])
+        self.assertRaises(IndexError, builder.entry, 0)
+        self.assertFalse(builder.poll())
+        self.assertEqual(list(builder.wanted()), [(1, "file:///b.ts")])
+        builder.answer(1, None)
+        self.assertTrue(builder.poll())
+        self.assertTrue(builder.poll())
+        self.refuses(21, builder, 1, "")
+        self.assertEqual((builder.entry(1).fault, builder.entry(0).edges[0].target), ("Missing", 1))
+        self.assertRaises(IndexError, builder.entry, 2)
+        self.assertRaises(ValueError, builder.place, 0, 100)
+
+    def test_what_ends_it(self):
+        with self.assertRaises(BundleError) as caught:
+            Builder(["a"])
+        self.assertEqual(str(caught.exception), 'error Bundle "/roots/0"')
+        builder = Builder(["file:///a.ts"], limit=1)
+        builder.poll()
+        builder.answer(0, 'import "./b.ts";')
+        with self.assertRaises(TooManyModules) as caught:
+            builder.poll()
+        self.assertEqual(caught.exception.seen, 2)
+        self.assertRaises(RuntimeError, builder.poll)
+
+    def test_an_import_map(self):
+        files = {"file:///a.ts": 'import "x"; import "y";', "file:///lib/x.ts": ""}
+        graph = Graph.build(["file:///a.ts"], files.get, importMap={"base": "file:///", "map": {"imports": {"x": "./lib/x.ts"}}})
+        self.assertEqual([(edge.target_specifier, edge.fault) for edge in graph.entries[0].edges],
+                         [("file:///lib/x.ts", None), (None, "ImportPrefixMissing")])
+
+    def test_more_than_a_bundle_holds(self):
+        graph = Graph.build(["file:///a.ts"], lambda specifier: f"/*{'x' * (20 << 20)}*/")
+        self.assertEqual(graph.entries[0].size, (20 << 20) + 4)
+        text = "".join(f'import "./{"y" * 100}{i}.ts";' for i in range(500))
+        graph = Graph.build(["file:///a.ts"], lambda specifier: text if specifier.endswith("/a.ts") else "")
+        self.assertEqual((len(graph.entries), len(graph.entries[0].edges)), (501, 500))
+
+    def test_of_several_threads(self):
+        with concurrent.futures.ThreadPoolExecutor(8) as pool:
+            counts = pool.map(lambda _: len(Graph.build(["file:///a.ts"], FILES.get).entries), range(32))
+            self.assertEqual(list(counts), [4] * 32)
+
+    def test_a_resolver(self):
+        files = {
+            "file:///a.ts": "import 'b'; import './c'; import type {} from 'd'; import('e'); import './f/'; import './a.ts' with { type: 'x' }; import './j' with { type: 'json' };"
+                            "import 'data:text/javascript,import%20%22b%22'",
+            "app:b": "import './c'", "app:c": Redirect("app:b"), "app:d": "", "app:e": "", "app:f/x.ts": "", "app:j.json": "{}",
+        }
+        leads = {"b": "app:b", "./c": "app:c", "d": "app:d", "e": "app:e", "./f/": "app:f/x.ts", "./j": "app:j.json"}
+        asked, loaded = [], []
+
+        def resolve(specifier, referrer):
+            asked.append((specifier, referrer))
+            return leads.get(specifier, specifier if specifier.startswith("data:") else None)
+
+        def load(specifier):
+            loaded.append(specifier)
+            return files.get(specifier)
+
+        async def load_later(specifier):
+            return load(specifier)
+
+        graph = Graph.build(["file:///a.ts"], load, resolver=resolve)
+        edges = [(edge.target_specifier, edge.fault) for edge in graph["file:///a.ts"].edges]
+        self.assertEqual(edges, [("app:b", None), ("app:c", None), ("app:d", None), ("app:e", None), ("file:///f/", None), (None, "Refused"),
+                                 ("app:j.json", None), ("data:text/javascript,import%20%22b%22", None)])
+        self.assertEqual(graph.resolve("file:///f/").specifier, "app:f/x.ts")
+        self.assertEqual(graph["data:text/javascript,import%20%22b%22"].edges[0].target_specifier, "app:b")
+        self.assertEqual((sorted(loaded), len(asked)), (sorted(files), 10))
+        self.assertEqual(asyncio.run(Graph.build_async(["file:///a.ts"], load_later, resolver=resolve)).entries, graph.entries)
+        loaded.clear()
+        graph = Graph.build(["file:///a.ts"], load, resolver=resolve, kind="code", skipDynamicDeps=True)
+        self.assertEqual(sorted(loaded), ["app:b", "app:c", "app:f/x.ts", "app:j.json", "file:///a.ts"])
+        self.assertRaises(ValueError, Graph.build, ["file:///a.ts"], load, resolver=resolve, importMap={})
+        with self.assertRaises(TooManyModules):
+            Graph.build(["file:///a.ts"], load, resolver=resolve, limit=3)
+
+    def test_the_folder(self):
+        with tempfile.TemporaryDirectory() as room:
+            for name, text in (("a.ts", "import './b'; import 'p';\nimport('./c.ts')"), ("b/index.ts", "import 'fs:x'"), ("node_modules/p.js", "")):
+                os.makedirs(os.path.dirname(os.path.join(room, name)), exist_ok=True)
+                with open(os.path.join(room, name), "w", encoding="utf-8") as file:
+                    file.write(text)
+            at = "file://" + room
+            self.assertEqual(list(folder.lines(Graph.build([at + "/a.ts"], folder.load, resolver=folder.resolve))), [
+                f"{at}/a.ts module", f"  1:8 ./b -> {at}/b/index.ts", f"  1:22 p -> {at}/node_modules/p.js", "  2:8 ./c.ts Refused",
+                f"{at}/b/index.ts module", "  1:8 fs:x -> fs:x", f"{at}/node_modules/p.js module", "fs:x external"])
+
+    def test_the_wheel(self):
+        with tempfile.TemporaryDirectory() as room:
+            with zipfile.ZipFile(os.path.join(room, backend.write_wheel(room, "0.1.0", b"x"))) as wheel:
+                self.assertEqual(sorted(wheel.namelist()), ["joravelsu-0.1.0.dist-info/METADATA", "joravelsu-0.1.0.dist-info/RECORD", "joravelsu-0.1.0.dist-info/WHEEL",
+                                                            "joravelsu/__init__.py", "joravelsu/libjoravelsu.so", "joravelsu/py.typed"])
+
+    def test_the_watcher(self):
+        with tempfile.TemporaryDirectory() as room:
+            def write(name, text):
+                with open(os.path.join(room, name), "w", encoding="utf-8") as file:
+                    file.write(text)
+
+            at = "file://" + room
+            write("a.ts", 'import "./b.ts";')
+            files = watch.Files()
+            told, said = watch.lines({}, Graph.build([at + "/a.ts"], files.load))
+            self.assertEqual(said, [f"+ {at}/a.ts", f"+ {at}/b.ts", f"! {at}/b.ts Missing"])
+            self.assertFalse(files.changed())
+            write("b.ts", 'import "./c.ts";')
+            self.assertTrue(files.changed())
+            told, said = watch.lines(told, Graph.build([at + "/a.ts"], files.load))
+            self.assertEqual((said, files.reads), ([f"+ {at}/c.ts", f"! {at}/c.ts Missing"], 2))
+            os.unlink(os.path.join(room, "b.ts"))
+            self.assertTrue(files.changed())
+            told, said = watch.lines(told, Graph.build([at + "/a.ts"], files.load))
+            self.assertEqual((said, files.reads), ([f"- {at}/c.ts", f"! {at}/b.ts Missing"], 2))
 
 
 class Threads(unittest.TestCase):

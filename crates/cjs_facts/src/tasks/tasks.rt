@@ -16,9 +16,9 @@ use std::alloc::AllocError;
 pub enum Each {
     /// Expressions.
     Exprs,
-    /// Expressions, each behind the text of a template.
+    /// Expressions, each after a text of a template.
     Holes,
-    /// Arguments, which may stand behind `...`.
+    /// Arguments, which may follow `...`.
     Args,
     /// Elements of an array.
     Elements,
@@ -48,7 +48,7 @@ pub enum Task<'a> {
     Each(Each, Siblings<'a>),
 }
 
-/// One task more, behind the others.
+/// Appends a task to the others.
 #[tactic(auto, using(crate::proofs::tasks_lemmas::Lines::queues_one))]
 pub fn queue<'a>(next: &mut Items<Task<'a>>, task: Task<'a>) -> Result<(), AllocError>
     ensures { OnOk result ((x : List ℕ) (ts : List Tok) → Queues x ts (effect x ts task.entry) next.old next.new) }
@@ -56,7 +56,7 @@ pub fn queue<'a>(next: &mut Items<Task<'a>>, task: Task<'a>) -> Result<(), Alloc
     next.push(task)
 }
 
-/// An expression more, which may be absent.
+/// Appends an expression, if there is one.
 #[tactic(auto, using(crate::proofs::tasks_lemmas::Lines::queues_expr, crate::proofs::tasks_lemmas::Lines::queues_none))]
 pub fn queue_maybe<'a>(next: &mut Items<Task<'a>>, row: &Siblings<'a>) -> Result<(), AllocError>
     ensures { OnOk result ((x : List ℕ) (ts : List Tok) → Queues x ts (of (if_some facts_of_expr) (optional expr_at (held x ts row.now.entries.now))) next.old next.new) }

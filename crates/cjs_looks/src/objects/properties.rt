@@ -26,7 +26,7 @@ pub struct Property<'a> {
     pub is_export: bool,
     /// The body of the function that it may be as a `get` of a descriptor.
     pub function: Option<Body<'a>>,
-    /// What stands behind `...`.
+    /// What follows `...`.
     pub spread: Option<Item<'a>>,
 }
 

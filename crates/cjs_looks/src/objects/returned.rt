@@ -17,7 +17,7 @@ use es_grammar::NodeKind;
 use es_syntax::{Item, Siblings, What};
 use es_view_statements::stmt::{Stmt, stmt_at};
 
-/// What stands behind `return`, if there is anything.
+/// The value after `return`, if there is one.
 #[tactic(auto, using(crate::proofs::objects_lemmas::Statements::returns_nothing, crate::proofs::objects_lemmas::Statements::returns_end, crate::proofs::objects_lemmas::Statements::returns_value))]
 fn return_value<'a>(arg: &Siblings<'a>) -> Option<Item<'a>>
     ensures { (x : List ℕ) (ts : List Tok) (r : Range) → Gives last_returns (returned_of r (held x ts arg.now.entries.now)) (handed x ts result) }

@@ -1,4 +1,4 @@
-//! Declarations that may stand behind `declare`.
+//! Declarations that may follow `declare`.
 
 ghost use Rattle.std.specs.Prelude.{◌≡◌, ℕ, Bool, List, OnOk};
 ghost use Rattle.base.specs.declared.range.Range.{Range};
@@ -21,7 +21,7 @@ use es_view_expressions::function::{typed_class, typed_function};
 use es_view_statements::decl::{Declarable, declarable_at};
 use std::alloc::AllocError;
 
-/// What a declaration that may stand behind `declare` leaves.
+/// What a declaration that may follow `declare` leaves.
 #[tactic(auto, using(crate::proofs::decl_tasks_lemmas::DeclarableForms::function, crate::proofs::decl_tasks_lemmas::DeclarableForms::class, crate::proofs::decl_tasks_lemmas::DeclarableForms::interface, crate::proofs::decl_tasks_lemmas::DeclarableForms::alias, crate::proofs::decl_tasks_lemmas::DeclarableForms::enumeration, crate::proofs::decl_tasks_lemmas::DeclarableForms::namespace, crate::proofs::decl_tasks_lemmas::DeclarableForms::module_, crate::proofs::decl_tasks_lemmas::DeclarableForms::global))]
 fn seen<'a>(next: &mut Items<Task<'a>>, it: &Declarable<'a>) -> Result<(), AllocError>
     ensures { OnOk result ((x : List ℕ) (ts : List Tok) (declare : Bool) (r span : Range) → Queues x ts (of (declarable_facts declare span) (the_declarable x ts r it.now)) next.old next.new) }
@@ -43,7 +43,7 @@ fn seen<'a>(next: &mut Items<Task<'a>>, it: &Declarable<'a>) -> Result<(), Alloc
     }
 }
 
-/// What a declaration that may stand behind `declare` leaves.
+/// What a declaration that may follow `declare` leaves.
 pub fn declarable<'a>(next: &mut Items<Task<'a>>, it: &Item<'a>) -> Result<(), AllocError>
     ensures { OnOk result ((x : List ℕ) (ts : List Tok) (declare : Bool) (span : Range) → Queues x ts (of (declarable_facts declare span) (declarable_in (valued x ts it.now))) next.old next.new) }
 {

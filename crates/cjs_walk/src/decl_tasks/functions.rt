@@ -15,7 +15,7 @@ use cjs_facts::tasks::Task;
 use es_view_expressions::function::{ClassHead, FunctionHead};
 use std::alloc::AllocError;
 
-/// What a function leaves, behind `declare` or not.
+/// What a function leaves, after `declare` or not.
 #[tactic(auto, using(crate::proofs::decl_tasks_lemmas::DeclForms::function))]
 pub fn function_decl<'a>(
     next: &mut Items<Task<'a>>,
@@ -26,7 +26,7 @@ pub fn function_decl<'a>(
     function_head(next, head)
 }
 
-/// What a class leaves, behind `declare` or not.
+/// What a class leaves, after `declare` or not.
 #[tactic(auto, using(crate::proofs::decl_tasks_lemmas::DeclForms::class))]
 pub fn class_decl<'a>(next: &mut Items<Task<'a>>, head: &ClassHead<'a>) -> Result<(), AllocError>
     ensures { OnOk result ((x : List ℕ) (ts : List Tok) (r span : Range) (declare : Bool) → Queues x ts (of facts_of_decl (option_map (λ class. vDecl.Class declare class span) (the_class x ts r head.now))) next.old next.new) }

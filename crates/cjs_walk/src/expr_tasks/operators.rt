@@ -31,7 +31,7 @@ fn yielded<'a>(next: &mut Items<Task<'a>>, arg: &Siblings<'a>) -> Result<(), All
     }
 }
 
-/// What stands behind an operand leaves: a right operand; of a type nothing.
+/// What the part after an operand leaves: a right operand; a type leaves nothing.
 #[tactic(auto, using(crate::proofs::expr_tasks_lemmas::TurnForms::turn_absent, crate::proofs::expr_tasks_lemmas::TurnForms::turn_type, crate::proofs::expr_tasks_lemmas::TurnForms::turn_operand))]
 fn typed_turn<'a>(next: &mut Items<Task<'a>>, turn: &Siblings<'a>) -> Result<(), AllocError>
     ensures { OnOk result ((x : List ℕ) (ts : List Tok) → Turns x ts (held x ts turn.now.entries.now) next.old next.new) }

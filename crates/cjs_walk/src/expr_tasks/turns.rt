@@ -24,7 +24,7 @@ pub fn expr_turn<'a>(next: &mut Items<Task<'a>>, turn: &Item<'a>) -> Result<(), 
     }
 }
 
-/// What the expression behind a text of a template leaves.
+/// What the expression after a text of a template leaves.
 pub fn hole_turn<'a>(next: &mut Items<Task<'a>>, turn: &Item<'a>) -> Result<(), AllocError>
     ensures { OnOk result ((x : List ℕ) (ts : List Tok) → Queues x ts (of facts_of_expr (expr_there (as_group (valued x ts turn.now)) 1)) next.old next.new) }
 {
@@ -34,7 +34,7 @@ pub fn hole_turn<'a>(next: &mut Items<Task<'a>>, turn: &Item<'a>) -> Result<(), 
     }
 }
 
-/// What an argument leaves, which may stand behind `...`.
+/// What an argument leaves, which may follow `...`.
 #[tactic(auto, using(crate::proofs::expr_tasks_lemmas::ElementForms::an_argument))]
 pub fn argument_turn<'a>(next: &mut Items<Task<'a>>, turn: &Item<'a>) -> Result<(), AllocError>
     ensures { OnOk result ((x : List ℕ) (ts : List Tok) → Queues x ts (of facts_of_expr (argument ts (as_group (valued x ts turn.now)))) next.old next.new) }

@@ -54,7 +54,7 @@ pub fn param_turn<'a>(next: &mut Items<Task<'a>>, turn: &Item<'a>) -> Result<(),
     }
 }
 
-/// What a last parameter behind `...` leaves, which may be absent.
+/// What a last parameter after `...` leaves, which may be absent.
 #[tactic(auto, using(crate::proofs::function_tasks_lemmas::ParamForms::rest_some, crate::proofs::function_tasks_lemmas::ParamForms::rest_none))]
 fn rest<'a>(next: &mut Items<Task<'a>>, row: &Siblings<'a>) -> Result<(), AllocError>
     ensures { OnOk result ((x : List ℕ) (ts : List Tok) → Queues x ts (of (if_some facts_of_param) (optional (rest_at ts) (held x ts row.now.entries.now))) next.old next.new) }

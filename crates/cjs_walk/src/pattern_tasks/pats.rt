@@ -40,7 +40,7 @@ pub fn pat<'a>(next: &mut Items<Task<'a>>, it: &Item<'a>) -> Result<(), AllocErr
     }
 }
 
-/// What a pattern leaves that may have `?` or a type behind it.
+/// What a pattern leaves that may have `?` or a type after it.
 #[tactic(auto, using(crate::proofs::pattern_tasks_lemmas::PatForms::ident_marked, crate::proofs::pattern_tasks_lemmas::PatForms::array_marked, crate::proofs::pattern_tasks_lemmas::PatForms::object_marked))]
 pub fn marked<'a>(next: &mut Items<Task<'a>>, it: &Item<'a>) -> Result<(), AllocError>
     ensures { OnOk result ((x : List ℕ) (ts : List Tok) (mark : Bool) (ty : Option TsPart) (r : Range) → Queues x ts (of (marked_facts mark ty r) (marked_in (valued x ts it.now))) next.old next.new) }

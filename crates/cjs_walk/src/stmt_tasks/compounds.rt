@@ -42,7 +42,7 @@ fn for_start<'a>(
     }
 }
 
-/// What the parts behind the block of a `try` leave: `finally` alone, or `catch` and perhaps `finally`.
+/// What the parts after the block of a `try` leave: `finally` alone, or `catch` and perhaps `finally`.
 #[tactic(auto, using(crate::proofs::stmt_tasks_lemmas::TryForms::finally_alone, crate::proofs::stmt_tasks_lemmas::TryForms::caught))]
 fn handled<'a>(next: &mut Items<Task<'a>>, handlers: &Siblings<'a>) -> Result<(), AllocError>
     ensures { OnOk result ((x : List ℕ) (ts : List Tok) → Handles x ts (held x ts handlers.now.entries.now) next.old next.new) }

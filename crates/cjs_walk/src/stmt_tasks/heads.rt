@@ -1,4 +1,4 @@
-//! Heads of loops: what stands before `in` or `of`.
+//! Heads of loops: what precedes `in` or `of`.
 
 ghost use Rattle.std.specs.Prelude.{◌≡◌, ℕ, List, OnOk};
 ghost use Rattle.es_token.specs.declared.token.Token.{Token as Tok};

@@ -18,7 +18,7 @@ use es_syntax::{Item, Siblings};
 use es_view_statements::stmt::{Stmt, compound_at, stmt_at};
 use std::alloc::AllocError;
 
-/// What `return` leaves: what it returns, and an end behind it; or an end alone.
+/// What `return` leaves: the value before its end; nothing with an end alone.
 #[tactic(auto, using(crate::proofs::stmt_tasks_lemmas::StmtForms::returned_end, crate::proofs::stmt_tasks_lemmas::StmtForms::returned_value))]
 fn returned<'a>(next: &mut Items<Task<'a>>, arg: &Siblings<'a>) -> Result<(), AllocError>
     ensures { OnOk result ((x : List ℕ) (ts : List Tok) (r : Range) → Queues x ts (of facts_of_stmt (returned_of r (held x ts arg.now.entries.now))) next.old next.new) }
@@ -32,7 +32,7 @@ fn returned<'a>(next: &mut Items<Task<'a>>, arg: &Siblings<'a>) -> Result<(), Al
     }
 }
 
-/// What a statement leaves that stands by itself.
+/// What a statement that `stmt_at` views leaves.
 #[tactic(auto, using(crate::proofs::stmt_tasks_lemmas::StmtForms::block_stmt, crate::proofs::stmt_tasks_lemmas::StmtForms::empty_stmt, crate::proofs::stmt_tasks_lemmas::StmtForms::debugger_stmt, crate::proofs::stmt_tasks_lemmas::StmtForms::expr_stmt, crate::proofs::stmt_tasks_lemmas::StmtForms::labelled_stmt, crate::proofs::stmt_tasks_lemmas::StmtForms::if_stmt, crate::proofs::stmt_tasks_lemmas::StmtForms::continue_stmt, crate::proofs::stmt_tasks_lemmas::StmtForms::break_stmt, crate::proofs::stmt_tasks_lemmas::StmtForms::throw_stmt, crate::proofs::stmt_tasks_lemmas::StmtForms::with_stmt))]
 fn plain<'a>(next: &mut Items<Task<'a>>, it: &Stmt<'a>) -> Result<(), AllocError>
     ensures { OnOk result ((x : List ℕ) (ts : List Tok) (r : Range) → Queues x ts (of facts_of_stmt (the_stmt x ts r it.now)) next.old next.new) }

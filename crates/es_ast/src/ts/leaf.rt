@@ -49,7 +49,7 @@ pub enum TsThisTypeOrIdent {
 /// `a`, `this` or `a.b.c`.
 pub struct TsEntityName {
     pub left: TsThisTypeOrIdent,
-    /// The names behind the dots.
+    /// The names after the dots.
     pub rest: Items<Ident>,
     pub span: Range,
 }
@@ -112,7 +112,7 @@ pub enum TsTypeOperatorOp {
     ReadOnly,
 }
 
-/// How `readonly` or `?` stands in a mapped type.
+/// How `readonly` or `?` appears in a mapped type.
 pub enum TruePlusMinus {
     Absent,
     True,

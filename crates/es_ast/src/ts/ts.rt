@@ -251,22 +251,22 @@ pub struct TsTupleElement {
     pub span: Range,
 }
 
-/// `a.b<c>` behind `extends` or `implements`.
+/// `a.b<c>` after `extends` or `implements`.
 pub struct TsExprWithTypeArgs {
     pub expr: TsEntityName,
     pub type_args: Option<Nodes<TsType>>,
     pub span: Range,
 }
 
-/// What the side of values holds of types. The field that holds it tells which variant it is.
+/// What the value side holds of types. The field that holds it determines which variant it is.
 pub enum TsPart {
-    /// Behind `:`, `as` or `satisfies`, or of an alias.
+    /// After `:`, `as` or `satisfies`, or of an alias.
     TypeAnn(Boxed<TsType>),
     /// `<a, b>` where parameters are declared
     TypeParams(Nodes<TsTypeParam>),
     /// `<a, b>` where arguments are given
     TypeArgs(Nodes<TsType>),
-    /// Behind `implements`, or `extends` of an interface.
+    /// After `implements`, or `extends` of an interface.
     Heritage(Items<TsExprWithTypeArgs>),
     /// The body of an interface.
     Members(Items<TsTypeElement>),

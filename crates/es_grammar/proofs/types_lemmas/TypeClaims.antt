@@ -12,12 +12,12 @@ use Rattle.grammar_theory.proofs.FreeLemmas.{holds_then}
 use Rattle.grammar_theory.proofs.Theorems.{IsGrammar}
 use Rattle.es_grammar.specs.declared.types.rows.TypeRow.{TypeRow as Row}
 use Rattle.es_grammar.specs.declared.types.rows.TypeRow.TheVariants.{TypeRow, IntersectionRow, OperandRow, ReferenceRow, EntityRow, ImportRow, ArgumentsRow, TypeParametersRow, OpenedFunctionRow, OpenedParametersRow, ElementRow, MemberRow, KeyRow, ResultRow, ParametersRow, ParameterRow, PatternRow, PatternElementRow, PatternPropertyRow, PatternKeyRow}
-use Rattle.es_grammar.specs.types.Words.{is_name, is_word, is_name_or_this, is_numeric, is_sign, is_accessor_word, is_near, begins_key}
-use Rattle.es_grammar.specs.types.TypeNames.{further_names, entity, opens_arguments, no_arguments, further_arguments, listed_parameters, opened_parameters, opened_function, begins_angle, begins_type_parameter, shows_type_parameter, opens_angle, reference, import_type, arguments, is_modifier, opens_modifier, type_parameter, type_parameters}
-use Rattle.es_grammar.specs.types.Parameters.{parameters_in, mark_in, type_in, list_before, is_parameter, parameters, has_mark, no_mark, name_pattern, array_pattern, object_pattern, pattern, parameter, pattern_element, pattern_key, opens_value, pattern_property}
-use Rattle.es_grammar.specs.types.Members.{result_in, is_separator, may_separate, separator, opens_parameters, call_signature, opens_construct, construct_signature, opens_readonly, shows_index, opens_index, index_signature, opens_accessor, accessor_signature, opens_method, method_signature, property_signature, is_property_key, readonly_property, member, computed_key, key}
-use Rattle.es_grammar.specs.types.Types.{is_literal_word, begins_type, parenthesized_type, members_type, shows_mapped, opens_mapped, sign_in, begins_signed, mapped_type, tuple_type, type_query, opens_this_reference, is_type_word, is_keyword_type, template_types, number_type, primary_type, opens_brackets, brackets_in, array_types, is_type_operator, opens_operator, opens_infer, operand_type, operands_in, intersection_type, union_type, opens_condition, no_condition, conditional_type, opens_function, function_type, opens_constructor, constructor_type, any_type, is_label, label_in, element, is_asserted_name, opens_asserts, opens_predicate, result}
+use Rattle.es_grammar.specs.types.Words.{is_name, is_word, is_name_or_this, is_numeric, begins_key}
+use Rattle.es_grammar.specs.types.TypeNames.{begins_angle, begins_type_parameter}
+use Rattle.es_grammar.specs.types.Members.{opens_parameters}
+use Rattle.es_grammar.specs.types.Types.{begins_type}
 use Rattle.es_grammar.specs.types.TypeTable.{type_rule}
+use Rattle.es_grammar.proofs.types_lemmas.OnRows.{types_on_rows}
 
 -- a token that can begin a parameter or its pattern
 abbrev begins_pattern : TokenTest
@@ -61,21 +61,7 @@ sets = record { first = first; follow = follow; solid = solid }
 
 -- each row but that of parameters takes a token, and so does each part that may be absent
 rows_take : (r : Row) → solid r ≡ true → rule_takes solid (type_rule r) ≡ true
-unfolding is_name is_word is_name_or_this is_numeric is_sign is_accessor_word is_near begins_key further_names entity
-    opens_arguments no_arguments further_arguments listed_parameters opened_parameters opened_function begins_angle
-    begins_type_parameter shows_type_parameter opens_angle reference import_type arguments is_modifier
-    opens_modifier type_parameter
-    type_parameters parameters_in mark_in type_in list_before is_parameter parameters has_mark no_mark name_pattern
-    array_pattern object_pattern pattern parameter pattern_element pattern_key opens_value pattern_property result_in
-    is_separator may_separate separator opens_parameters call_signature opens_construct construct_signature
-    opens_readonly shows_index opens_index index_signature opens_accessor accessor_signature opens_method
-    method_signature property_signature is_property_key readonly_property member computed_key key is_literal_word
-    begins_type parenthesized_type members_type shows_mapped opens_mapped sign_in begins_signed mapped_type tuple_type
-    type_query opens_this_reference is_type_word is_keyword_type template_types number_type primary_type
-    opens_brackets brackets_in array_types is_type_operator opens_operator opens_infer operand_type operands_in
-    intersection_type union_type opens_condition no_condition conditional_type opens_function function_type
-    opens_constructor constructor_type any_type is_label label_in element is_asserted_name opens_asserts
-    opens_predicate result type_rule
+unfolding types_on_rows
 rows_take (TypeRow true) h = refl
 rows_take (TypeRow false) h = refl
 rows_take IntersectionRow h = refl
@@ -100,21 +86,7 @@ rows_take PatternPropertyRow h = refl
 rows_take PatternKeyRow h = refl
 
 parts_take : (r : Row) → rule_parts_take solid (type_rule r) ≡ true
-unfolding is_name is_word is_name_or_this is_numeric is_sign is_accessor_word is_near begins_key further_names entity
-    opens_arguments no_arguments further_arguments listed_parameters opened_parameters opened_function begins_angle
-    begins_type_parameter shows_type_parameter opens_angle reference import_type arguments is_modifier
-    opens_modifier type_parameter
-    type_parameters parameters_in mark_in type_in list_before is_parameter parameters has_mark no_mark name_pattern
-    array_pattern object_pattern pattern parameter pattern_element pattern_key opens_value pattern_property result_in
-    is_separator may_separate separator opens_parameters call_signature opens_construct construct_signature
-    opens_readonly shows_index opens_index index_signature opens_accessor accessor_signature opens_method
-    method_signature property_signature is_property_key readonly_property member computed_key key is_literal_word
-    begins_type parenthesized_type members_type shows_mapped opens_mapped sign_in begins_signed mapped_type tuple_type
-    type_query opens_this_reference is_type_word is_keyword_type template_types number_type primary_type
-    opens_brackets brackets_in array_types is_type_operator opens_operator opens_infer operand_type operands_in
-    intersection_type union_type opens_condition no_condition conditional_type opens_function function_type
-    opens_constructor constructor_type any_type is_label label_in element is_asserted_name opens_asserts
-    opens_predicate result type_rule
+unfolding types_on_rows
 parts_take (TypeRow true) = refl
 parts_take (TypeRow false) = refl
 parts_take IntersectionRow = refl
@@ -140,21 +112,7 @@ parts_take PatternKeyRow = refl
 
 -- what a row begins with
 begins : (r : Row) → holds_everywhere (λ x. implies (rule_starts sets (type_rule r) none x) (first r x)) ≡ true
-unfolding is_name is_word is_name_or_this is_numeric is_sign is_accessor_word is_near begins_key further_names entity
-    opens_arguments no_arguments further_arguments listed_parameters opened_parameters opened_function begins_angle
-    begins_type_parameter shows_type_parameter opens_angle reference import_type arguments is_modifier
-    opens_modifier type_parameter
-    type_parameters parameters_in mark_in type_in list_before is_parameter parameters has_mark no_mark name_pattern
-    array_pattern object_pattern pattern parameter pattern_element pattern_key opens_value pattern_property result_in
-    is_separator may_separate separator opens_parameters call_signature opens_construct construct_signature
-    opens_readonly shows_index opens_index index_signature opens_accessor accessor_signature opens_method
-    method_signature property_signature is_property_key readonly_property member computed_key key is_literal_word
-    begins_type parenthesized_type members_type shows_mapped opens_mapped sign_in begins_signed mapped_type tuple_type
-    type_query opens_this_reference is_type_word is_keyword_type template_types number_type primary_type
-    opens_brackets brackets_in array_types is_type_operator opens_operator opens_infer operand_type operands_in
-    intersection_type union_type opens_condition no_condition conditional_type opens_function function_type
-    opens_constructor constructor_type any_type is_label label_in element is_asserted_name opens_asserts
-    opens_predicate result type_rule holds_everywhere
+unfolding types_on_rows holds_everywhere
 begins (TypeRow true) = refl
 begins (TypeRow false) = refl
 begins IntersectionRow = refl
@@ -180,21 +138,7 @@ begins PatternKeyRow = refl
 
 -- each test tells
 tests_tell : (r : Row) → holds_everywhere (rule_tells sets (type_rule r) (follow r)) ≡ true
-unfolding is_name is_word is_name_or_this is_numeric is_sign is_accessor_word is_near begins_key further_names entity
-    opens_arguments no_arguments further_arguments listed_parameters opened_parameters opened_function begins_angle
-    begins_type_parameter shows_type_parameter opens_angle reference import_type arguments is_modifier
-    opens_modifier type_parameter
-    type_parameters parameters_in mark_in type_in list_before is_parameter parameters has_mark no_mark name_pattern
-    array_pattern object_pattern pattern parameter pattern_element pattern_key opens_value pattern_property result_in
-    is_separator may_separate separator opens_parameters call_signature opens_construct construct_signature
-    opens_readonly shows_index opens_index index_signature opens_accessor accessor_signature opens_method
-    method_signature property_signature is_property_key readonly_property member computed_key key is_literal_word
-    begins_type parenthesized_type members_type shows_mapped opens_mapped sign_in begins_signed mapped_type tuple_type
-    type_query opens_this_reference is_type_word is_keyword_type template_types number_type primary_type
-    opens_brackets brackets_in array_types is_type_operator opens_operator opens_infer operand_type operands_in
-    intersection_type union_type opens_condition no_condition conditional_type opens_function function_type
-    opens_constructor constructor_type any_type is_label label_in element is_asserted_name opens_asserts
-    opens_predicate result type_rule holds_everywhere
+unfolding types_on_rows holds_everywhere
 tests_tell (TypeRow true) = refl
 tests_tell (TypeRow false) = refl
 tests_tell IntersectionRow = refl

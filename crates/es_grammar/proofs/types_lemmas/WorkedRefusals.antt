@@ -5,16 +5,10 @@ use Rattle.std.proofs.Common.{◌≡◌, refl}
 use Rattle.es_token.specs.declared.token.TokenKind.TheVariants as k
 use Rattle.grammar_theory.specs.Productions.{as_kind, as_name}
 use Rattle.grammar_theory.specs.Plain.{node, leaf, nil, cons, mark}
-use Rattle.grammar_theory.specs.Fits.{most_nodes}
-use Rattle.grammar_theory.specs.Reader.{nothing, gives, read_turns, read_wraps, read_row}
+use Rattle.grammar_theory.specs.Reader.{nothing, gives}
 use Rattle.es_grammar.specs.types.TypeRows.{Entity, InferType, KeywordType}
 use Rattle.es_grammar.specs.types.TypeReader.{one, paired, read_type}
-use Rattle.es_grammar.specs.types.Words.{is_name, is_word, is_name_or_this, is_numeric, is_sign, is_accessor_word, is_near, begins_key}
-use Rattle.es_grammar.specs.types.TypeNames.{further_names, entity, opens_arguments, no_arguments, further_arguments, listed_parameters, opened_parameters, opened_function, begins_angle, begins_type_parameter, shows_type_parameter, opens_angle, reference, import_type, arguments, is_modifier, opens_modifier, type_parameter, type_parameters}
-use Rattle.es_grammar.specs.types.Parameters.{parameters_in, mark_in, type_in, list_before, is_parameter, parameters, has_mark, no_mark, name_pattern, array_pattern, object_pattern, pattern, parameter, pattern_element, pattern_key, opens_value, pattern_property}
-use Rattle.es_grammar.specs.types.Members.{result_in, is_separator, may_separate, separator, opens_parameters, call_signature, opens_construct, construct_signature, opens_readonly, shows_index, opens_index, index_signature, opens_accessor, accessor_signature, opens_method, method_signature, property_signature, is_property_key, readonly_property, member, computed_key, key}
-use Rattle.es_grammar.specs.types.Types.{is_literal_word, begins_type, parenthesized_type, members_type, shows_mapped, opens_mapped, sign_in, begins_signed, mapped_type, tuple_type, type_query, opens_this_reference, is_type_word, is_keyword_type, template_types, number_type, primary_type, opens_brackets, brackets_in, array_types, is_type_operator, opens_operator, opens_infer, operand_type, operands_in, intersection_type, union_type, opens_condition, no_condition, conditional_type, opens_function, follows_parameter, begins_parameters, function_type, opens_constructor, constructor_type, any_type, is_label, label_in, element, is_asserted_name, opens_asserts, opens_predicate, result}
-use Rattle.es_grammar.specs.types.TypeTable.{type_rule}
+use Rattle.es_grammar.proofs.types_lemmas.OnKeys.{types_on_keys}
 
 -- cut short or with too much
 refused :
@@ -47,23 +41,7 @@ refused :
     -- infer a b
     × (read_type (one k.InferWord ∷ one k.Name ∷ one k.Name ∷ []) ≡ gives (node InferType 0 2 (mark 0 (cons (leaf
     as_name 1) nil))) 2)
-unfolding read_type read_row read_turns read_wraps most_nodes
-    is_name is_word is_name_or_this is_numeric is_sign is_accessor_word is_near begins_key further_names entity
-    opens_arguments no_arguments further_arguments listed_parameters opened_parameters opened_function begins_angle
-    begins_type_parameter shows_type_parameter opens_angle reference import_type arguments is_modifier
-    opens_modifier type_parameter
-    type_parameters parameters_in mark_in type_in list_before is_parameter parameters has_mark no_mark name_pattern
-    array_pattern object_pattern pattern parameter pattern_element pattern_key opens_value pattern_property
-    result_in is_separator may_separate separator opens_parameters call_signature opens_construct
-    construct_signature opens_readonly shows_index opens_index index_signature opens_accessor accessor_signature
-    opens_method method_signature property_signature is_property_key readonly_property member computed_key key
-    is_literal_word begins_type parenthesized_type members_type shows_mapped opens_mapped sign_in begins_signed
-    mapped_type tuple_type type_query opens_this_reference is_type_word is_keyword_type template_types number_type
-    primary_type opens_brackets brackets_in array_types is_type_operator opens_operator opens_infer operand_type
-    operands_in intersection_type union_type opens_condition no_condition conditional_type opens_function
-    follows_parameter begins_parameters
-    function_type opens_constructor constructor_type any_type is_label label_in element is_asserted_name
-    opens_asserts opens_predicate result type_rule
+unfolding types_on_keys
 refused =
     (refl, refl, refl, refl, refl, refl, refl, refl, refl, refl, refl, refl)
 
@@ -100,22 +78,6 @@ refused_more :
     -- { new () => a }
     × (read_type (paired k.OpenBrace 6 ∷ one k.NewWord ∷ paired k.OpenParen 3 ∷ paired k.CloseParen 2 ∷ one k.Arrow
     ∷ one k.Name ∷ paired k.CloseBrace 0 ∷ []) ≡ nothing)
-unfolding read_type read_row read_turns read_wraps most_nodes
-    is_name is_word is_name_or_this is_numeric is_sign is_accessor_word is_near begins_key further_names entity
-    opens_arguments no_arguments further_arguments listed_parameters opened_parameters opened_function begins_angle
-    begins_type_parameter shows_type_parameter opens_angle reference import_type arguments is_modifier
-    opens_modifier type_parameter
-    type_parameters parameters_in mark_in type_in list_before is_parameter parameters has_mark no_mark name_pattern
-    array_pattern object_pattern pattern parameter pattern_element pattern_key opens_value pattern_property
-    result_in is_separator may_separate separator opens_parameters call_signature opens_construct
-    construct_signature opens_readonly shows_index opens_index index_signature opens_accessor accessor_signature
-    opens_method method_signature property_signature is_property_key readonly_property member computed_key key
-    is_literal_word begins_type parenthesized_type members_type shows_mapped opens_mapped sign_in begins_signed
-    mapped_type tuple_type type_query opens_this_reference is_type_word is_keyword_type template_types number_type
-    primary_type opens_brackets brackets_in array_types is_type_operator opens_operator opens_infer operand_type
-    operands_in intersection_type union_type opens_condition no_condition conditional_type opens_function
-    follows_parameter begins_parameters
-    function_type opens_constructor constructor_type any_type is_label label_in element is_asserted_name
-    opens_asserts opens_predicate result type_rule
+unfolding types_on_keys
 refused_more =
     (refl, refl, refl, refl, refl, refl, refl, refl, refl, refl, refl, refl)

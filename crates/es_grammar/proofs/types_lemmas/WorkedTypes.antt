@@ -4,16 +4,10 @@ use Rattle.std.proofs.Common.{◌≡◌, refl}
 use Rattle.es_token.specs.declared.token.TokenKind.TheVariants as k
 use Rattle.grammar_theory.specs.Productions.{as_kind, as_name, as_raw, as_str, as_there}
 use Rattle.grammar_theory.specs.Plain.{node, leaf, nil, cons, mark, turn}
-use Rattle.grammar_theory.specs.Fits.{most_nodes}
-use Rattle.grammar_theory.specs.Reader.{gives, read_turns, read_wraps, read_row}
+use Rattle.grammar_theory.specs.Reader.{gives}
 use Rattle.es_grammar.specs.types.TypeRows.{AccessorSignature, ArrayPattern, ArrayTypes, AssertsResult, CallSignature, ComputedKey, ConditionalType, ConstructSignature, ConstructorType, Entity, FunctionType, ImportType, IndexSignature, InferType, IntersectionType, KeyProperty, KeywordType, LabelledElement, LeadingIntersectionType, LeadingUnionType, MappedType, MarkedParameter, MembersType, MethodSignature, NamePattern, NameProperty, NumberKey, NumberType, ObjectPattern, OptionalElement, Parameters, ParenthesizedType, PredicateResult, PropertySignature, ReadonlyProperty, Reference, RestElement, RestPattern, RestProperty, StrType, TemplateType, TemplateTypes, ThisParameter, ThisType, TupleType, TypeArguments, TypeOperator, TypeParameters, TypeQuery, UnionType, WordKey, WordPatternKey, WordType}
 use Rattle.es_grammar.specs.types.TypeReader.{one, paired, line, line_paired, read_type}
-use Rattle.es_grammar.specs.types.Words.{is_name, is_word, is_name_or_this, is_numeric, is_sign, is_accessor_word, is_near, begins_key}
-use Rattle.es_grammar.specs.types.TypeNames.{further_names, entity, opens_arguments, no_arguments, further_arguments, listed_parameters, opened_parameters, opened_function, begins_angle, begins_type_parameter, shows_type_parameter, opens_angle, reference, import_type, arguments, is_modifier, opens_modifier, type_parameter, type_parameters}
-use Rattle.es_grammar.specs.types.Parameters.{parameters_in, mark_in, type_in, list_before, is_parameter, parameters, has_mark, no_mark, name_pattern, array_pattern, object_pattern, pattern, parameter, pattern_element, pattern_key, opens_value, pattern_property}
-use Rattle.es_grammar.specs.types.Members.{result_in, is_separator, may_separate, separator, opens_parameters, call_signature, opens_construct, construct_signature, opens_readonly, shows_index, opens_index, index_signature, opens_accessor, accessor_signature, opens_method, method_signature, property_signature, is_property_key, readonly_property, member, computed_key, key}
-use Rattle.es_grammar.specs.types.Types.{is_literal_word, begins_type, parenthesized_type, members_type, shows_mapped, opens_mapped, sign_in, begins_signed, mapped_type, tuple_type, type_query, opens_this_reference, is_type_word, is_keyword_type, template_types, number_type, primary_type, opens_brackets, brackets_in, array_types, is_type_operator, opens_operator, opens_infer, operand_type, operands_in, intersection_type, union_type, opens_condition, no_condition, conditional_type, opens_function, follows_parameter, begins_parameters, function_type, opens_constructor, constructor_type, any_type, is_label, label_in, element, is_asserted_name, opens_asserts, opens_predicate, result}
-use Rattle.es_grammar.specs.types.TypeTable.{type_rule}
+use Rattle.es_grammar.proofs.types_lemmas.OnKeys.{types_on_keys}
 
 -- names, literals, templates
 primary_types :
@@ -62,23 +56,7 @@ primary_types :
     -- (a)
     × (read_type (paired k.OpenParen 2 ∷ one k.Name ∷ paired k.CloseParen 0 ∷ []) ≡ gives (node ParenthesizedType 0
     3 (mark 0 (cons (node Entity 1 2 (cons (leaf as_name 1) (cons nil nil))) (mark 2 nil)))) 3)
-unfolding read_type read_row read_turns read_wraps most_nodes
-    is_name is_word is_name_or_this is_numeric is_sign is_accessor_word is_near begins_key further_names entity
-    opens_arguments no_arguments further_arguments listed_parameters opened_parameters opened_function begins_angle
-    begins_type_parameter shows_type_parameter opens_angle reference import_type arguments is_modifier
-    opens_modifier type_parameter
-    type_parameters parameters_in mark_in type_in list_before is_parameter parameters has_mark no_mark name_pattern
-    array_pattern object_pattern pattern parameter pattern_element pattern_key opens_value pattern_property
-    result_in is_separator may_separate separator opens_parameters call_signature opens_construct
-    construct_signature opens_readonly shows_index opens_index index_signature opens_accessor accessor_signature
-    opens_method method_signature property_signature is_property_key readonly_property member computed_key key
-    is_literal_word begins_type parenthesized_type members_type shows_mapped opens_mapped sign_in begins_signed
-    mapped_type tuple_type type_query opens_this_reference is_type_word is_keyword_type template_types number_type
-    primary_type opens_brackets brackets_in array_types is_type_operator opens_operator opens_infer operand_type
-    operands_in intersection_type union_type opens_condition no_condition conditional_type opens_function
-    follows_parameter begins_parameters
-    function_type opens_constructor constructor_type any_type is_label label_in element is_asserted_name
-    opens_asserts opens_predicate result type_rule
+unfolding types_on_keys
 primary_types =
     (refl, refl, refl, refl, refl, refl, refl, refl, refl, refl, refl, refl, refl, refl, refl)
 
@@ -155,23 +133,7 @@ operators :
     as_name 6) (cons nil nil))) (mark 7 (cons (node Entity 8 9 (cons (leaf as_name 8) (cons nil nil))) (mark 9
     (cons (node Entity 10 11 (cons (leaf as_name 10) (cons nil nil))) (mark 11 (cons (node Entity 12 13 (cons
     (leaf as_name 12) (cons nil nil))) nil)))))))) nil)))))))) 13)
-unfolding read_type read_row read_turns read_wraps most_nodes
-    is_name is_word is_name_or_this is_numeric is_sign is_accessor_word is_near begins_key further_names entity
-    opens_arguments no_arguments further_arguments listed_parameters opened_parameters opened_function begins_angle
-    begins_type_parameter shows_type_parameter opens_angle reference import_type arguments is_modifier
-    opens_modifier type_parameter
-    type_parameters parameters_in mark_in type_in list_before is_parameter parameters has_mark no_mark name_pattern
-    array_pattern object_pattern pattern parameter pattern_element pattern_key opens_value pattern_property
-    result_in is_separator may_separate separator opens_parameters call_signature opens_construct
-    construct_signature opens_readonly shows_index opens_index index_signature opens_accessor accessor_signature
-    opens_method method_signature property_signature is_property_key readonly_property member computed_key key
-    is_literal_word begins_type parenthesized_type members_type shows_mapped opens_mapped sign_in begins_signed
-    mapped_type tuple_type type_query opens_this_reference is_type_word is_keyword_type template_types number_type
-    primary_type opens_brackets brackets_in array_types is_type_operator opens_operator opens_infer operand_type
-    operands_in intersection_type union_type opens_condition no_condition conditional_type opens_function
-    follows_parameter begins_parameters
-    function_type opens_constructor constructor_type any_type is_label label_in element is_asserted_name
-    opens_asserts opens_predicate result type_rule
+unfolding types_on_keys
 operators =
     (refl, refl, refl, refl, refl, refl, refl, refl, refl, refl, refl, refl, refl, refl, refl)
 
@@ -274,23 +236,7 @@ functions :
     paired k.OpenBracket 6 ∷ paired k.CloseBracket 5 ∷ []) ≡ gives (node FunctionType 0 7 (cons nil (mark 0
     (cons (node Parameters 1 1 (cons nil (cons nil nil))) (mark 1 (mark 2 (cons (node PredicateResult 3 7 (cons
     (leaf as_name 3) (mark 4 (cons (node TupleType 5 7 (mark 5 (cons nil (mark 6 nil)))) nil)))) nil))))))) 7)
-unfolding read_type read_row read_turns read_wraps most_nodes
-    is_name is_word is_name_or_this is_numeric is_sign is_accessor_word is_near begins_key further_names entity
-    opens_arguments no_arguments further_arguments listed_parameters opened_parameters opened_function begins_angle
-    begins_type_parameter shows_type_parameter opens_angle reference import_type arguments is_modifier
-    opens_modifier type_parameter
-    type_parameters parameters_in mark_in type_in list_before is_parameter parameters has_mark no_mark name_pattern
-    array_pattern object_pattern pattern parameter pattern_element pattern_key opens_value pattern_property
-    result_in is_separator may_separate separator opens_parameters call_signature opens_construct
-    construct_signature opens_readonly shows_index opens_index index_signature opens_accessor accessor_signature
-    opens_method method_signature property_signature is_property_key readonly_property member computed_key key
-    is_literal_word begins_type parenthesized_type members_type shows_mapped opens_mapped sign_in begins_signed
-    mapped_type tuple_type type_query opens_this_reference is_type_word is_keyword_type template_types number_type
-    primary_type opens_brackets brackets_in array_types is_type_operator opens_operator opens_infer operand_type
-    operands_in intersection_type union_type opens_condition no_condition conditional_type opens_function
-    follows_parameter begins_parameters
-    function_type opens_constructor constructor_type any_type is_label label_in element is_asserted_name
-    opens_asserts opens_predicate result type_rule
+unfolding types_on_keys
 functions =
     (refl, refl, refl, refl, refl, refl, refl, refl, refl, refl, refl, refl, refl, refl)
 
@@ -315,23 +261,7 @@ queries :
     (leaf as_str 2) (mark 3 (cons (mark 4 (cons (node Entity 5 6 (cons (leaf as_name 5) (cons nil nil))) nil))
     (cons (cons (node TypeArguments 6 9 (mark 6 (cons (node Entity 7 8 (cons (leaf as_name 7) (cons nil nil)))
     (cons nil (mark 8 nil))))) nil) nil))))))) 9)
-unfolding read_type read_row read_turns read_wraps most_nodes
-    is_name is_word is_name_or_this is_numeric is_sign is_accessor_word is_near begins_key further_names entity
-    opens_arguments no_arguments further_arguments listed_parameters opened_parameters opened_function begins_angle
-    begins_type_parameter shows_type_parameter opens_angle reference import_type arguments is_modifier
-    opens_modifier type_parameter
-    type_parameters parameters_in mark_in type_in list_before is_parameter parameters has_mark no_mark name_pattern
-    array_pattern object_pattern pattern parameter pattern_element pattern_key opens_value pattern_property
-    result_in is_separator may_separate separator opens_parameters call_signature opens_construct
-    construct_signature opens_readonly shows_index opens_index index_signature opens_accessor accessor_signature
-    opens_method method_signature property_signature is_property_key readonly_property member computed_key key
-    is_literal_word begins_type parenthesized_type members_type shows_mapped opens_mapped sign_in begins_signed
-    mapped_type tuple_type type_query opens_this_reference is_type_word is_keyword_type template_types number_type
-    primary_type opens_brackets brackets_in array_types is_type_operator opens_operator opens_infer operand_type
-    operands_in intersection_type union_type opens_condition no_condition conditional_type opens_function
-    follows_parameter begins_parameters
-    function_type opens_constructor constructor_type any_type is_label label_in element is_asserted_name
-    opens_asserts opens_predicate result type_rule
+unfolding types_on_keys
 queries =
     (refl, refl, refl, refl)
 
@@ -362,23 +292,7 @@ tuples :
     (cons nil nil)))))) (cons (mark 9 nil) nil)) (turn (cons (node RestElement 10 14 (mark 10 (cons (cons (leaf
     as_name 11) (cons nil (mark 12 nil))) (cons (node Entity 13 14 (cons (leaf as_name 13) (cons nil nil)))
     (cons nil nil))))) (cons nil nil)) nil))) (mark 14 nil)))) 15)
-unfolding read_type read_row read_turns read_wraps most_nodes
-    is_name is_word is_name_or_this is_numeric is_sign is_accessor_word is_near begins_key further_names entity
-    opens_arguments no_arguments further_arguments listed_parameters opened_parameters opened_function begins_angle
-    begins_type_parameter shows_type_parameter opens_angle reference import_type arguments is_modifier
-    opens_modifier type_parameter
-    type_parameters parameters_in mark_in type_in list_before is_parameter parameters has_mark no_mark name_pattern
-    array_pattern object_pattern pattern parameter pattern_element pattern_key opens_value pattern_property
-    result_in is_separator may_separate separator opens_parameters call_signature opens_construct
-    construct_signature opens_readonly shows_index opens_index index_signature opens_accessor accessor_signature
-    opens_method method_signature property_signature is_property_key readonly_property member computed_key key
-    is_literal_word begins_type parenthesized_type members_type shows_mapped opens_mapped sign_in begins_signed
-    mapped_type tuple_type type_query opens_this_reference is_type_word is_keyword_type template_types number_type
-    primary_type opens_brackets brackets_in array_types is_type_operator opens_operator opens_infer operand_type
-    operands_in intersection_type union_type opens_condition no_condition conditional_type opens_function
-    follows_parameter begins_parameters
-    function_type opens_constructor constructor_type any_type is_label label_in element is_asserted_name
-    opens_asserts opens_predicate result type_rule
+unfolding types_on_keys
 tuples =
     (refl, refl, refl, refl)
 
@@ -465,23 +379,7 @@ members :
     PropertySignature 15 18 (cons (node NumberKey 15 16 (cons (leaf as_raw 15) nil)) (cons nil (cons (mark 16
     (cons (node Entity 17 18 (cons (leaf as_name 17) (cons nil nil))) nil)) (cons nil nil))))) nil) nil))) (mark
     18 nil)))) 19)
-unfolding read_type read_row read_turns read_wraps most_nodes
-    is_name is_word is_name_or_this is_numeric is_sign is_accessor_word is_near begins_key further_names entity
-    opens_arguments no_arguments further_arguments listed_parameters opened_parameters opened_function begins_angle
-    begins_type_parameter shows_type_parameter opens_angle reference import_type arguments is_modifier
-    opens_modifier type_parameter
-    type_parameters parameters_in mark_in type_in list_before is_parameter parameters has_mark no_mark name_pattern
-    array_pattern object_pattern pattern parameter pattern_element pattern_key opens_value pattern_property
-    result_in is_separator may_separate separator opens_parameters call_signature opens_construct
-    construct_signature opens_readonly shows_index opens_index index_signature opens_accessor accessor_signature
-    opens_method method_signature property_signature is_property_key readonly_property member computed_key key
-    is_literal_word begins_type parenthesized_type members_type shows_mapped opens_mapped sign_in begins_signed
-    mapped_type tuple_type type_query opens_this_reference is_type_word is_keyword_type template_types number_type
-    primary_type opens_brackets brackets_in array_types is_type_operator opens_operator opens_infer operand_type
-    operands_in intersection_type union_type opens_condition no_condition conditional_type opens_function
-    follows_parameter begins_parameters
-    function_type opens_constructor constructor_type any_type is_label label_in element is_asserted_name
-    opens_asserts opens_predicate result type_rule
+unfolding types_on_keys
 members =
     (refl, refl, refl, refl, refl, refl, refl, refl, refl, refl)
 
@@ -502,22 +400,6 @@ mapped_types :
     (leaf as_name 8) (cons nil nil))) nil)) (mark 9 (cons (cons nil (cons (leaf as_there 10) nil)) (cons (mark
     11 (cons (node Entity 12 13 (cons (leaf as_name 12) (cons nil nil))) nil)) (cons (mark 13 nil) (mark 14
     nil))))))))))))) 15)
-unfolding read_type read_row read_turns read_wraps most_nodes
-    is_name is_word is_name_or_this is_numeric is_sign is_accessor_word is_near begins_key further_names entity
-    opens_arguments no_arguments further_arguments listed_parameters opened_parameters opened_function begins_angle
-    begins_type_parameter shows_type_parameter opens_angle reference import_type arguments is_modifier
-    opens_modifier type_parameter
-    type_parameters parameters_in mark_in type_in list_before is_parameter parameters has_mark no_mark name_pattern
-    array_pattern object_pattern pattern parameter pattern_element pattern_key opens_value pattern_property
-    result_in is_separator may_separate separator opens_parameters call_signature opens_construct
-    construct_signature opens_readonly shows_index opens_index index_signature opens_accessor accessor_signature
-    opens_method method_signature property_signature is_property_key readonly_property member computed_key key
-    is_literal_word begins_type parenthesized_type members_type shows_mapped opens_mapped sign_in begins_signed
-    mapped_type tuple_type type_query opens_this_reference is_type_word is_keyword_type template_types number_type
-    primary_type opens_brackets brackets_in array_types is_type_operator opens_operator opens_infer operand_type
-    operands_in intersection_type union_type opens_condition no_condition conditional_type opens_function
-    follows_parameter begins_parameters
-    function_type opens_constructor constructor_type any_type is_label label_in element is_asserted_name
-    opens_asserts opens_predicate result type_rule
+unfolding types_on_keys
 mapped_types =
     (refl, refl)

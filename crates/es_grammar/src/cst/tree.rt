@@ -8,7 +8,7 @@ pub enum Cst {
     Leaf {
         at: usize,
     },
-    /// A node: the alternative that was read, its first token, the token behind its last one, and its parts.
+    /// A node: the alternative that was read, its first token, the token after its last one, and its parts.
     Node {
         label: NodeKind,
         from: usize,

@@ -1,24 +1,8 @@
 use grammar_theory::Lang;
 
-/// Where a row stands.
-#[derive(Clone, Copy, Debug, PartialEq, Eq)]
-pub struct Context {
-    /// In a script.
-    pub script: bool,
-    /// In the head of a `for`, where `in` is no operator.
-    pub no_in: bool,
-    /// In an async function.
-    pub in_async: bool,
-}
-
-/// The rows of the table of programs.
+/// The rows of what imports and exports bind.
 #[derive(Clone, Copy)]
 pub enum Row {
-    // A module, a script, and an item of a module.
-    ModuleRow(Lang),
-    ScriptRow,
-    ItemRow(Lang),
-    // What an import binds.
     ClauseRow(Lang),
     NamedRow(Lang),
     // One name in braces.
@@ -26,54 +10,9 @@ pub enum Row {
     ExportSpecifierRow(Lang),
     AttributesRow,
     EntityRow,
-    // Statements.
-    StatementRow(Context),
-    BlockRow(Context),
-    DeclarationRow(Context),
-    VariablesRow(Context),
-    DeclaratorRow(Context),
-    UsingRow(Context),
-    HeadRow(Context),
-    HeadPatternRow(Context),
-    // Functions and classes, whose name may lack or not (true); parameters and patterns: in a pattern that is assigned to
-    // (true) targets stand in place of names.
-    FunctionRow(bool, Context),
-    ClassRow(bool, Context),
-    SignatureRow(Context),
-    ParametersRow(Context),
-    ParameterRow(Context),
-    PatternRow(bool, Context),
-    InnerPatternRow(bool, Context),
-    PatternElementRow(bool, Context),
-    PatternPropertyRow(bool, Context),
-    // Members of classes and properties of objects; the keys of members (true) may be private.
-    MemberRow(Context),
-    PropertyRow(Context),
-    KeyRow(bool, Context),
-    // Expressions, from the loosest to the tightest.
-    ExpressionRow(Context),
-    AssignmentRow(Context),
-    AndRow(Context),
-    BitOrRow(Context),
-    BitXorRow(Context),
-    BitAndRow(Context),
-    EqualityRow(Context),
-    RelationRow(Context),
-    ShiftRow(Context),
-    SumRow(Context),
-    ProductRow(Context),
-    PowerRow(Context),
-    UnaryRow(Context),
-    ChainRow(Context),
-    CalleeRow(Context),
-    PostRow(Context),
-    MemberPostRow(Context),
-    ArgumentsRow(Context),
-    ElementRow(Context),
-    TemplateRow(Context),
 }
 
-/// The alternatives of the rows that make a node.
+/// The alternatives of imports and of exports of names that make a node.
 #[derive(Clone, Copy, Debug, PartialEq, Eq)]
 pub enum NodeKind {
     BareImport,
@@ -96,120 +35,14 @@ pub enum NodeKind {
     ExportedName,
     Attributes,
     Entity,
-    ExportDefaultFunction,
-    ExportDefaultClass,
-    ExportDefaultExpression,
-    ExportDeclaration,
-    Module,
-    Script,
-    Block,
-    EmptyStatement,
-    ExpressionStatement,
-    LabelledStatement,
-    IfStatement,
-    ForStatement,
-    ForEachStatement,
-    ForAwaitStatement,
-    WhileStatement,
-    DoStatement,
-    ContinueStatement,
-    BreakStatement,
-    ReturnStatement,
-    ThrowStatement,
-    SwitchStatement,
-    TryStatement,
-    DebuggerStatement,
-    WithStatement,
-    VariableDeclaration,
-    UsingDeclaration,
-    Variables,
-    Declarator,
-    Using,
-    VariableHead,
-    UsingHead,
-    Target,
-    AsyncFunction,
-    Function,
-    Signature,
-    Parameters,
-    DefaultParameter,
-    NamePattern,
-    ArrayPattern,
-    ObjectPattern,
-    RestPattern,
-    DefaultPattern,
-    RestProperty,
-    KeyPattern,
-    NameProperty,
-    Class,
-    EmptyMember,
-    StaticBlock,
-    AccessorMember,
-    AsyncMember,
-    GeneratorMember,
-    MethodMember,
-    FieldMember,
-    AccessorField,
-    WordKey,
-    StrKey,
-    NumberKey,
-    ComputedKey,
-    PrivateKey,
-    Sequence,
-    Yield,
-    PatternAssignment,
-    Assignment,
-    NameArrow,
-    ParenthesizedArrow,
-    AsyncNameArrow,
-    AsyncParenthesizedArrow,
-    Conditional,
-    Binary,
-    PrivateIn,
-    UnaryExpression,
-    AwaitExpression,
-    UpdatePrefix,
-    UpdatePostfix,
-    Chain,
-    MemberPost,
-    IndexPost,
-    CallPost,
-    TemplatePost,
-    OptionalPost,
-    Super,
-    ImportCall,
-    SourceCall,
-    DeferCall,
-    ImportMeta,
-    NewTarget,
-    New,
-    Arguments,
-    Name,
-    Word,
-    Number,
-    Str,
-    RegExp,
-    Template,
-    TemplateParts,
-    Parenthesized,
-    ArrayLiteral,
-    ObjectLiteral,
-    Spread,
-    SpreadProperty,
-    AccessorProperty,
-    AsyncProperty,
-    GeneratorProperty,
-    MethodProperty,
-    KeyValue,
-    Shorthand,
 }
 
 /// The rows of the types' table.
 #[derive(Clone, Copy)]
 pub enum TypeRow {
-    // A type, where a conditional type may stand (true) or not.
+    // A type, where a conditional type is allowed (true) or not.
     TypeRow(bool),
-    // The type behind `|`, and the one behind `&`.
+    // The type after `|`, and the one after `&`.
     IntersectionRow,
     OperandRow,
     // Names of types, with arguments and without.
@@ -218,14 +51,14 @@ pub enum TypeRow {
     ImportRow,
     ArgumentsRow,
     TypeParametersRow,
-    // A function type behind `<<`, whose second half is its own, and its type parameters.
+    // A function type after `<<`, whose second half is its own, and its type parameters.
     OpenedFunctionRow,
     OpenedParametersRow,
     // Parts of tuples and of types in braces.
     ElementRow,
     MemberRow,
     KeyRow,
-    // The result of a function, where a conditional type may stand or not.
+    // The result of a function, where a conditional type is allowed or not.
     ResultRow(bool),
     // Parameters, and the patterns that they hold.
     ParametersRow,

@@ -18,7 +18,7 @@ pub fn as_written(quote: char, literal: &str) -> Option<&str>
     }
 }
 
-/// What stands between two of these quotes.
+/// What is between two of these quotes.
 fn between(quote: char, literal: &str) -> Option<&str>
     requires { quote < 128 }
     ensures { IfSome result (λ text. literal.now ≡ quote ∷ (text.now ++ quote ∷ [])) }

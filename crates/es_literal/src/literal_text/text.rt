@@ -8,7 +8,7 @@ use base::Text;
 use std::alloc::{AllocError, Global};
 
 /// The text that a string literal stands for, quotes included (ECMA-262, "String Literals", Static Semantics: SV). Of any
-/// other text it is that of what stands between the first and the last character, by the same rules.
+/// other text it is that of what is between the first and the last character, by the same rules.
 pub fn literal_text(alloc: Global, literal: &str) -> Result<Text, AllocError>
     ensures { IfOk result (λ text. text ≡ value_of literal.now) }
 {

@@ -1,7 +1,7 @@
 ghost use Rattle.std.specs.Prelude.{◌≡◌};
 ghost use Rattle.es_literal.specs.spelling.Lines.{begins_separator, begins_line_end};
 
-/// Whether a line end stands at the front of the text.
+/// Whether the text begins with a line end.
 #[tactic(auto, unfolding(crate::specs::spelling::Lines::begins_line_end))]
 pub fn begins_line_end(text: &[u8]) -> bool
     ensures { result ≡ begins_line_end text.now }
@@ -14,7 +14,7 @@ pub fn begins_line_end(text: &[u8]) -> bool
     }
 }
 
-/// Whether the further bytes of U+2028 or U+2029 stand there.
+/// Whether the further bytes of U+2028 or U+2029 come next.
 #[tactic(auto, unfolding(crate::specs::spelling::Lines::begins_separator))]
 fn begins_separator(text: &[u8]) -> bool
     ensures { result ≡ begins_separator text.now }

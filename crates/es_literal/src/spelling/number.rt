@@ -18,7 +18,7 @@ pub struct NumberEnd {
     pub end: usize,
 }
 
-/// The number at the front of the text, which stands at `at`.
+/// The number at the front of the text, which starts at `at`.
 #[tactic(auto, unfolding(crate::specs::spelling::Numbers::number_end))]
 pub fn number_from(at: usize, text: &[u8]) -> NumberEnd
     requires { at + length text.now < 2 ^ 64 }
@@ -54,7 +54,7 @@ fn after_number(b: u8, rest: &[u8]) -> (bool, &[u8])
     }
 }
 
-/// Behind a number that begins with `0`.
+/// After a number that begins with `0`.
 #[tactic(auto, unfolding(crate::specs::spelling::Numbers::after_zero))]
 fn after_zero(text: &[u8]) -> (bool, &[u8])
     ensures big { result.0 ≡ (after_zero text.now).0 }
@@ -73,7 +73,7 @@ fn after_zero(text: &[u8]) -> (bool, &[u8])
     }
 }
 
-/// Behind the digits of a radix, where they stand in `rest`, or behind the whole part `0`.
+/// After the digits of a radix, where `rest` begins with one, or after the whole part `0`.
 #[tactic(auto, unfolding(crate::specs::spelling::Numbers::after_letter))]
 fn after_letter<'a>(radix: Option<Radix>, text: &'a [u8], rest: &'a [u8]) -> (bool, &'a [u8])
     requires { length rest.now ≤ length text.now }
@@ -105,7 +105,7 @@ fn after_digits(text: &[u8]) -> (bool, &[u8])
     }
 }
 
-/// Behind the whole part of a decimal number.
+/// After the whole part of a decimal number.
 #[tactic(auto, unfolding(crate::specs::spelling::Numbers::after_whole))]
 fn after_whole(text: &[u8]) -> (bool, &[u8])
     ensures big { result.0 ≡ (after_whole text.now).0 }
@@ -119,7 +119,7 @@ fn after_whole(text: &[u8]) -> (bool, &[u8])
     }
 }
 
-/// Behind an exponent, or at once.
+/// The text after an optional exponent.
 #[tactic(auto, unfolding(crate::specs::spelling::Numbers::exponent_rest))]
 fn exponent_rest(text: &[u8]) -> &[u8]
     ensures value { result.now ≡ exponent_rest text.now }
@@ -164,7 +164,7 @@ fn power_rest<'a>(text: &'a [u8], rest: &'a [u8]) -> &'a [u8]
     }
 }
 
-/// Behind a point and places, or at once.
+/// The text after an optional point and places.
 #[tactic(auto, unfolding(crate::specs::spelling::Numbers::fraction_rest))]
 fn fraction_rest(text: &[u8]) -> &[u8]
     ensures value { result.now ≡ fraction_rest text.now }
@@ -176,7 +176,7 @@ fn fraction_rest(text: &[u8]) -> &[u8]
     }
 }
 
-/// Behind decimal digits, or at once.
+/// The text after optional decimal digits.
 #[tactic(auto, unfolding(crate::specs::spelling::Numbers::places_rest))]
 fn places_rest(text: &[u8]) -> &[u8]
     ensures value { result.now ≡ places_rest text.now }
@@ -194,7 +194,7 @@ fn places_rest(text: &[u8]) -> &[u8]
     }
 }
 
-/// Behind decimal digits without `_`.
+/// The text after decimal digits without `_`.
 #[tactic(auto, unfolding(crate::specs::spelling::Numbers::decimals_rest))]
 fn decimals_rest(text: &[u8]) -> &[u8]
     ensures value { result.now ≡ decimals_rest text.now }
@@ -210,7 +210,7 @@ fn decimals_rest(text: &[u8]) -> &[u8]
     rest
 }
 
-/// Behind digits in a row, each behind one `_` or none.
+/// The text after digits in a row, each after one `_` or none.
 #[tactic(auto, unfolding(crate::specs::spelling::Numbers::digits_rest))]
 fn digits_rest(radix: Radix, text: &[u8]) -> &[u8]
     ensures value { result.now ≡ digits_rest radix text.now }
@@ -259,7 +259,7 @@ fn is_digit(radix: Radix, b: u8) -> bool
     }
 }
 
-/// The radix that a letter behind `0` stands for.
+/// The radix that a letter after `0` stands for.
 #[tactic(auto, unfolding(crate::specs::spelling::Numbers::radix_of))]
 fn radix_of(b: u8) -> Option<Radix>
     ensures { result ≡ radix_of b }

@@ -3,7 +3,7 @@ ghost use Rattle.es_literal.specs.spelling.RegExps.{pair_size, class_unit, class
 
 use crate::spelling::line::begins_line_end;
 
-/// The place behind the body of a regular expression and its `/`, if there is one. The text stands at `first`, behind the
+/// The offset after the body of a regular expression and its `/`, if there is one. The text starts at `first`, after the
 /// `/` that begins it.
 #[tactic(auto, unfolding(crate::specs::spelling::RegExps::body_end))]
 pub fn regexp_from(first: usize, text: &[u8]) -> Option<usize>
@@ -59,7 +59,7 @@ fn body_unit(text: &[u8]) -> usize
     }
 }
 
-/// The size of a class, whose `[` stands before the text, 0 where no `]` ends it.
+/// The size of a class, whose `[` precedes the text, 0 where no `]` ends it.
 #[tactic(auto, unfolding(crate::specs::spelling::RegExps::class_size))]
 fn class_size(text: &[u8]) -> usize
     requires { 1 + length text.now < 2 ^ 64 }
@@ -111,7 +111,7 @@ fn class_unit(text: &[u8]) -> usize
     }
 }
 
-/// The size of a `\`, which stands before the text, and the byte behind it.
+/// The size of a `\`, which precedes the text, and the byte after it.
 #[tactic(auto, unfolding(crate::specs::spelling::RegExps::pair_size))]
 fn pair_size(text: &[u8]) -> usize
     ensures value { result ≡ pair_size text.now }

@@ -12,7 +12,7 @@ pub enum TemplateEnd {
     Unclosed,
 }
 
-/// The end of a template's text, which stands at `first`.
+/// The end of a template's text, which starts at `first`.
 #[tactic(auto, unfolding(crate::specs::spelling::Templates::template_end))]
 pub fn template_from(first: usize, bytes: &[u8]) -> TemplateEnd
     requires { first + length bytes.now < 2 ^ 64 }

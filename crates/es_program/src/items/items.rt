@@ -60,14 +60,14 @@ fn item_at(is_script: bool, at: Place<'_>) -> ModuleItemRef<'_>
     }
 }
 
-/// What stands in a turn.
+/// The node in a turn.
 fn node_in<'a>(turn: &Item<'a>) -> Option<Item<'a>>
     ensures { (x : List ℕ) (ts : List Tok) → part (as_group (valued x ts turn.now)) 0 ≡ there x ts result }
 {
     turn.group().part(0)
 }
 
-/// The first item that is to come, and those behind it.
+/// The next item, and those after it.
 #[tactic(auto, using(crate::proofs::items_lemmas::Bodies::items_none, crate::proofs::items_lemmas::Bodies::items_some, crate::proofs::items_lemmas::Bodies::first_typed, crate::proofs::items_lemmas::Bodies::rest_typed, crate::proofs::items_lemmas::Bodies::nothing_typed))]
 pub fn first_item<'a>(body: &Body<'a>) -> Option<(ModuleItemRef<'a>, Body<'a>)>
     ensures value { items_left body.now ≡ first_of result }
@@ -114,7 +114,7 @@ impl<'a> Iterator for Body<'a> {
     }
 }
 
-/// Whether these items of a module tell that it is one of CommonJS: what the first says that tells.
+/// Whether these items say that theirs is a CommonJS module; the first that says anything decides.
 pub fn tells_script(body: &Body<'_>) -> bool
     ensures { result ≡ told.tells_script (items_left body.now) }
 {

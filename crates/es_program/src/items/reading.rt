@@ -1,4 +1,4 @@
-//! What an item keeps, and what it tells.
+//! The range of an item, and what it says.
 ghost use Rattle.std.specs.Prelude.{◌≡◌};
 ghost use Rattle.es_lowering.specs.Texts.{span_of};
 ghost use Rattle.es_program.specs.items.Told.{told_by};
@@ -25,8 +25,8 @@ impl ModuleItemRef<'_> {
         }
     }
 
-    /// What it tells of its module: `import a = ..` and `export = a` that the module is one of CommonJS, any other import or
-    /// export that it is none, and `export as namespace a` or a statement nothing.
+    /// What it says of its module: `import a = ..` and `export = a` say that it is a CommonJS module, any other import or export
+    /// says that it is none, and `export as namespace a` or a statement says nothing.
     #[tactic(auto, using(crate::proofs::items_lemmas::ReadLemmas::decl_told, crate::proofs::items_lemmas::ReadLemmas::stmt_told))]
     pub fn told(self) -> Option<bool>
         ensures { result ≡ told_by (spec.lent_item self.entry) }

@@ -103,7 +103,7 @@ impl ReadsProduction<Row> for AnyProduction {
     }
 }
 
-/// The rule of a row, in a language. Those that are read most stand first, in a frame of their own: that of all rows is wide.
+/// The rule of a row, in a language. The most read come first, in a stack frame of their own: that of all rows is large.
 #[derive(Clone, Copy)]
 pub struct ProductionOf(pub Lang, pub Row);
 
@@ -128,7 +128,7 @@ impl ReadsProduction<Row> for ProductionOf {
     }
 }
 
-/// The rows, where so many may stand on a path: `read` reads each of them.
+/// The rows, with at most `room` on a path: `read` reads each of them.
 #[derive(Clone, Copy)]
 pub struct Ring<F> {
     pub room: usize,
@@ -146,7 +146,7 @@ impl<F: Fn(Input<'_>, usize, Row, &mut Cursor) -> Result<usize, SyntaxError>> Ro
     }
 }
 
-/// A row, where so many rows may stand on a path.
+/// A row, with at most `room` rows on a path.
 #[tactic(auto, unfolding(es_rules::specs::Bounded::row_at))]
 pub fn read_row(
     input: Input<'_>,

@@ -20,7 +20,7 @@ use std::alloc::Global;
 /// The most nodes on a path of a part that a predicate asks for.
 const ROOM: usize = 500;
 
-/// The token behind a part of few enough nodes on a path.
+/// Where a part with few enough nodes on a path ends.
 fn low_end(end: Option<End>) -> Option<usize>
     ensures { result ≡ low_end end }
 {
@@ -35,8 +35,8 @@ fn low_end(end: Option<End>) -> Option<usize>
     }
 }
 
-/// The number behind the type arguments that can be read here, or none: a predicate holds behind them exactly where it does
-/// behind that number.
+/// Where the type arguments that can be read here end, or `None`: a predicate holds after them exactly where it does
+/// at that index.
 fn arguments_end(tokens: &Tokens<'_>, alloc: Global, at: usize) -> Option<usize>
     requires { at ≤ length tokens.now.tokens.now }
     ensures { (g : AnyPredicate) → reads_before ArgumentsRow g (keys_of tokens.now.tokens.now) at
@@ -48,7 +48,7 @@ fn arguments_end(tokens: &Tokens<'_>, alloc: Global, at: usize) -> Option<usize>
     }
 }
 
-/// The number behind the type parameters that can be read here, or none.
+/// Where the type parameters that can be read here end, or `None`.
 pub fn parameters_end(tokens: &Tokens<'_>, alloc: Global, at: usize) -> Option<usize>
     requires { at ≤ length tokens.now.tokens.now }
     ensures { (g : AnyPredicate) → reads_before TypeParametersRow g (keys_of tokens.now.tokens.now) at
@@ -60,7 +60,7 @@ pub fn parameters_end(tokens: &Tokens<'_>, alloc: Global, at: usize) -> Option<u
     }
 }
 
-/// `<` or `<<` stands here; then it is a place of the tokens.
+/// `<` or `<<` is here; then `at` is the index of a token.
 #[tactic(auto, unfolding(es_grammar::specs::types::TypeNames::begins_angle))]
 fn stands_angle(tokens: &Tokens<'_>, at: usize) -> bool
     ensures kind { result ≡ begins_angle (seen (keys_of tokens.now.tokens.now) at) }
@@ -69,7 +69,7 @@ fn stands_angle(tokens: &Tokens<'_>, at: usize) -> bool
     tokens.stands(TokenKind::Less, at) || tokens.stands(TokenKind::LessLess, at)
 }
 
-/// `<` opens type arguments behind an expression.
+/// `<` opens type arguments after an expression.
 #[tactic(auto, unfolding(es_grammar::specs::Embedding::opens_call_arguments, es_grammar::specs::Embedding::stands_call))]
 pub fn opens_call_arguments(tokens: &Tokens<'_>, alloc: Global, at: usize) -> bool
     ensures { result ≡ opens_call_arguments (keys_of tokens.now.tokens.now) at }
@@ -96,7 +96,7 @@ fn stands_new(tokens: &Tokens<'_>, at: usize) -> bool
             || tokens.joins(TokenKind::EqualEqualEqual, at))
 }
 
-/// It does behind the operand of `new`.
+/// `<` opens the type arguments of `new`.
 #[tactic(auto, unfolding(es_grammar::specs::Expressions::opens_new_arguments))]
 pub fn opens_new_arguments(tokens: &Tokens<'_>, alloc: Global, at: usize) -> bool
     ensures { result ≡ opens_new_arguments (keys_of tokens.now.tokens.now) at }
@@ -110,7 +110,7 @@ pub fn opens_new_arguments(tokens: &Tokens<'_>, alloc: Global, at: usize) -> boo
     }
 }
 
-/// It does behind the operand of `extends`.
+/// `<` opens the type arguments of `extends`.
 #[tactic(auto, unfolding(es_grammar::specs::Embedding::opens_heritage_arguments, es_grammar::specs::Embedding::stands_heritage))]
 pub fn opens_heritage_arguments(tokens: &Tokens<'_>, alloc: Global, at: usize) -> bool
     ensures { result ≡ opens_heritage_arguments (keys_of tokens.now.tokens.now) at }
@@ -128,7 +128,7 @@ pub fn opens_heritage_arguments(tokens: &Tokens<'_>, alloc: Global, at: usize) -
     }
 }
 
-/// `(`, or `(` behind type arguments.
+/// `(`, or `(` after type arguments.
 #[tactic(auto, unfolding(es_grammar::specs::Expressions::opens_call, es_grammar::specs::Expressions::is_at))]
 pub fn opens_call(tokens: &Tokens<'_>, alloc: Global, at: usize) -> bool
     ensures { result ≡ opens_call (keys_of tokens.now.tokens.now) at }

@@ -14,7 +14,7 @@ use es_token::TokenKind;
 use grammar_theory::Lang;
 use std::alloc::Global;
 
-/// Whether the bracket that matches the one at this place stands before what follows an arrow's parameters.
+/// Whether the bracket that matches the one here directly precedes what follows an arrow's parameters.
 fn closes_parameters(tokens: &Tokens<'_>, context: Context, at: usize) -> bool
     ensures { result ≡ closes_before (follows_parameters lang.Typescript context) (keys_of tokens.now.tokens.now) at }
 {
@@ -107,7 +107,7 @@ pub fn opens_any_arrow(
         || opens_async_here(tokens, alloc, lang, context, at)
 }
 
-/// The `:` of an arrow's result, where one may stand.
+/// The `:` of an arrow's result, where it is allowed.
 #[tactic(auto, unfolding(es_grammar::specs::Expressions::opens_arrow_result))]
 pub fn opens_arrow_result(tokens: &Tokens<'_>, context: Context, at: usize) -> bool
     ensures { result ≡ opens_arrow_result context (keys_of tokens.now.tokens.now) at }
@@ -115,7 +115,7 @@ pub fn opens_arrow_result(tokens: &Tokens<'_>, context: Context, at: usize) -> b
     !context.no_colon && tokens.sees(TokenKind::Colon, at)
 }
 
-/// Parameters in brackets stand behind `async`.
+/// Parameters in brackets follow `async`.
 #[tactic(auto, unfolding(es_grammar::specs::Expressions::opens_async_list))]
 pub fn opens_async_list(tokens: &Tokens<'_>, lang: Lang, at: usize) -> bool
     ensures { result ≡ opens_async_list lang (keys_of tokens.now.tokens.now) at }

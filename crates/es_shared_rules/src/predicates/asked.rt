@@ -23,7 +23,7 @@ impl IsOfKinds for Kinds {
     }
 }
 
-/// Those that are asked most stand first.
+/// The most asked tests come first.
 impl Sees for Lookahead {
     ghost look = { λ s. lookahead_of s };
 

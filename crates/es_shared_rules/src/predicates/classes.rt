@@ -22,7 +22,7 @@ use es_lookahead::{Seen, Tokens};
 use es_token::TokenKind;
 use grammar_theory::Lang;
 
-/// A modifier of a parameter stands here; then a token is at this place.
+/// A modifier of a parameter is here; then `at` is the index of a token.
 #[tactic(auto, unfolding(es_grammar::specs::Functions::opens_parameter_modifier))]
 pub fn opens_parameter_modifier(tokens: &Tokens<'_>, context: Context, at: usize) -> bool
     ensures predicate { result ≡ opens_parameter_modifier context (keys_of tokens.now.tokens.now) at }
@@ -57,7 +57,7 @@ pub fn opens_modifier(tokens: &Tokens<'_>, at: usize) -> bool
     is_near(next) && (starts_member_key(next) || is(TokenKind::Star, next))
 }
 
-/// The place behind the modifiers: there are no more of them than tokens.
+/// The place after the modifiers: there are no more of them than tokens.
 fn behind_modifiers(tokens: &Tokens<'_>, from: usize) -> usize
     ensures { result ≡ behind_modifiers (keys_of tokens.now.tokens.now) (length (keys_of tokens.now.tokens.now)) from }
 {
@@ -72,7 +72,7 @@ fn behind_modifiers(tokens: &Tokens<'_>, from: usize) -> usize
     at
 }
 
-/// A modifier of this run stands here; then a token is at this place.
+/// A modifier of this run is here; then `at` is the index of a token.
 fn opens_one(tokens: &Tokens<'_>, run: Modifiers, at: usize) -> bool
     ensures predicate { result ≡ modifier_of run (keys_of tokens.now.tokens.now) at }
     ensures within { result ≡ true → at < length tokens.now.tokens.now }
@@ -83,7 +83,7 @@ fn opens_one(tokens: &Tokens<'_>, run: Modifiers, at: usize) -> bool
     }
 }
 
-/// A modifier of the kind that was seen stands in the run from here on, among so many tokens.
+/// A modifier of the kind of `seen` is in the run from here on, among the next `turns` tokens.
 fn stands_from(tokens: &Tokens<'_>, run: Modifiers, seen: Seen, from: usize, turns: usize) -> bool
     ensures { result ≡ stands_again (modifier_of run) (keys_of tokens.now.tokens.now) (sight (Some seen)) turns from }
 {
@@ -101,7 +101,7 @@ fn stands_from(tokens: &Tokens<'_>, run: Modifiers, seen: Seen, from: usize, tur
     false
 }
 
-/// The modifier at this place stands again in its run, among so many tokens behind it.
+/// The modifier here occurs again in its run, among the `turns` tokens after it.
 fn stands_again(tokens: &Tokens<'_>, run: Modifiers, at: usize, turns: usize) -> bool
     requires { at < length tokens.now.tokens.now }
     ensures { result ≡ stands_again (modifier_of run) (keys_of tokens.now.tokens.now)
@@ -113,7 +113,7 @@ fn stands_again(tokens: &Tokens<'_>, run: Modifiers, at: usize, turns: usize) ->
     }
 }
 
-/// Each modifier of the run stands at most once, from here on.
+/// Each modifier of the run occurs at most once, from here on.
 #[tactic(auto, unfolding(es_grammar::specs::Functions::each_once))]
 pub fn each_once(tokens: &Tokens<'_>, run: Modifiers, from: usize) -> bool
     ensures { result ≡ each_once (modifier_of run) (keys_of tokens.now.tokens.now) from }
@@ -141,7 +141,7 @@ fn begins_method(tokens: &Tokens<'_>, at: usize) -> bool
         || (tokens.sees(TokenKind::Question, at) && opens_parameters(tokens.seen_after(at, 1)))
 }
 
-/// The key of a method stands here.
+/// The key of a method is here.
 #[tactic(auto, unfolding(es_grammar::specs::Functions::opens_any_method))]
 pub fn opens_any_method(tokens: &Tokens<'_>, lang: Lang, at: usize) -> bool
     ensures { result ≡ opens_any_method lang (keys_of tokens.now.tokens.now) at }
@@ -155,7 +155,7 @@ pub fn opens_any_method(tokens: &Tokens<'_>, lang: Lang, at: usize) -> bool
     }
 }
 
-/// The same one token behind a place.
+/// `begins_method`, one token later.
 fn begins_method_after(tokens: &Tokens<'_>, at: usize) -> bool
     ensures { result ≡ begins_method (keys_of tokens.now.tokens.now) (at + 1) }
 {
@@ -181,7 +181,7 @@ pub fn opens_declarator(tokens: &Tokens<'_>, at: usize) -> bool
     is_declarator_mark(tokens.seen_behind_key(at))
 }
 
-/// Behind the modifiers stands a key that is none.
+/// A key, not a modifier, follows the modifiers.
 #[tactic(auto, unfolding(es_grammar::specs::Classes::is_member_key))]
 pub fn is_member_key(tokens: &Tokens<'_>, at: usize) -> bool
     ensures { result ≡ is_member_key (keys_of tokens.now.tokens.now) at }
@@ -192,7 +192,7 @@ pub fn is_member_key(tokens: &Tokens<'_>, at: usize) -> bool
         && !tokens.opens_field_accessor(at)
 }
 
-/// `get` or `set` before a key, behind the modifiers.
+/// `get` or `set` before a key, after the modifiers.
 #[tactic(auto, unfolding(es_grammar::specs::Classes::behind_all))]
 pub fn behind_all_accessor(tokens: &Tokens<'_>, at: usize) -> bool
     ensures { result ≡ behind_all (opens_accessor true) (keys_of tokens.now.tokens.now) at }
@@ -200,7 +200,7 @@ pub fn behind_all_accessor(tokens: &Tokens<'_>, at: usize) -> bool
     tokens.opens_accessor(true, behind_modifiers(tokens, at))
 }
 
-/// `async` before a key or `*` on its line, behind the modifiers.
+/// `async` before a key or `*` on its line, after the modifiers.
 #[tactic(auto, unfolding(es_grammar::specs::Classes::behind_all))]
 pub fn behind_all_async(tokens: &Tokens<'_>, at: usize) -> bool
     ensures { result ≡ behind_all (opens_async true) (keys_of tokens.now.tokens.now) at }
@@ -208,7 +208,7 @@ pub fn behind_all_async(tokens: &Tokens<'_>, at: usize) -> bool
     tokens.opens_async(true, behind_modifiers(tokens, at))
 }
 
-/// `*` behind the modifiers.
+/// `*` after the modifiers.
 #[tactic(auto, unfolding(es_grammar::specs::Classes::behind_all))]
 pub fn behind_all_star(tokens: &Tokens<'_>, at: usize) -> bool
     ensures { result ≡ behind_all opens_star (keys_of tokens.now.tokens.now) at }
@@ -216,7 +216,7 @@ pub fn behind_all_star(tokens: &Tokens<'_>, at: usize) -> bool
     tokens.opens_star(behind_modifiers(tokens, at))
 }
 
-/// `accessor` before a key or `*` on its line, behind the modifiers.
+/// `accessor` before a key or `*` on its line, after the modifiers.
 #[tactic(auto, unfolding(es_grammar::specs::Classes::behind_all))]
 pub fn behind_all_field_accessor(tokens: &Tokens<'_>, at: usize) -> bool
     ensures { result ≡ behind_all opens_field_accessor (keys_of tokens.now.tokens.now) at }
@@ -224,7 +224,7 @@ pub fn behind_all_field_accessor(tokens: &Tokens<'_>, at: usize) -> bool
     tokens.opens_field_accessor(behind_modifiers(tokens, at))
 }
 
-/// The key of a method behind the modifiers.
+/// The key of a method after the modifiers.
 #[tactic(auto, unfolding(es_grammar::specs::Classes::behind_all))]
 pub fn behind_all_method(tokens: &Tokens<'_>, at: usize) -> bool
     ensures { result ≡ behind_all (opens_any_method lang.Typescript) (keys_of tokens.now.tokens.now) at }
@@ -232,7 +232,7 @@ pub fn behind_all_method(tokens: &Tokens<'_>, at: usize) -> bool
     opens_any_method(tokens, Lang::Typescript, behind_modifiers(tokens, at))
 }
 
-/// `[ Name :` behind the modifiers.
+/// `[ Name :` after the modifiers.
 #[tactic(auto, unfolding(es_grammar::specs::Classes::behind_all, es_grammar::specs::types::Members::shows_index))]
 pub fn behind_all_index(tokens: &Tokens<'_>, at: usize) -> bool
     ensures { result ≡ behind_all shows_index (keys_of tokens.now.tokens.now) at }

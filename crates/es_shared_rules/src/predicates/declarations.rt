@@ -106,7 +106,7 @@ fn heads_typed(tokens: &Tokens<'_>, at: usize) -> bool
         || opens_global(tokens, at)
 }
 
-/// `enum`, or `const enum`, one token behind a place.
+/// `enum`, or `const enum`, one token later.
 #[tactic(auto, unfolding(es_grammar::specs::Declarations::opens_enum))]
 fn opens_enum_behind(tokens: &Tokens<'_>, at: usize) -> bool
     ensures { result ≡ opens_enum (keys_of tokens.now.tokens.now) (at + 1) }
@@ -116,7 +116,7 @@ fn opens_enum_behind(tokens: &Tokens<'_>, at: usize) -> bool
             && is(TokenKind::EnumWord, tokens.seen_after(at, 2)))
 }
 
-/// Variables stand behind `declare`.
+/// Variables follow `declare`.
 #[tactic(auto, unfolding(es_grammar::specs::Declarations::declares_variables))]
 pub fn declares_variables(tokens: &Tokens<'_>, at: usize) -> bool
     ensures { result ≡ declares_variables (keys_of tokens.now.tokens.now) at }
@@ -124,7 +124,7 @@ pub fn declares_variables(tokens: &Tokens<'_>, at: usize) -> bool
     has(Kinds::VariableWord, tokens.seen_after(at, 1)) && !opens_enum_behind(tokens, at)
 }
 
-/// A declaration of TypeScript begins one token behind a place.
+/// A declaration of TypeScript begins one token later.
 fn heads_typed_behind(tokens: &Tokens<'_>, at: usize) -> bool
     ensures { result ≡ heads_typed (keys_of tokens.now.tokens.now) (at + 1) }
 {
@@ -134,7 +134,7 @@ fn heads_typed_behind(tokens: &Tokens<'_>, at: usize) -> bool
     heads_typed(tokens, at + 1)
 }
 
-/// Behind `export` stands a declaration.
+/// A declaration follows `export`.
 #[tactic(auto, unfolding(es_grammar::specs::Items::opens_any_declaration))]
 pub fn opens_any_declaration(tokens: &Tokens<'_>, lang: Lang, at: usize) -> bool
     ensures { result ≡ opens_any_declaration lang (keys_of tokens.now.tokens.now) at }
@@ -145,7 +145,7 @@ pub fn opens_any_declaration(tokens: &Tokens<'_>, lang: Lang, at: usize) -> bool
     }
 }
 
-/// Behind `export default` stands a class.
+/// A class follows `export default`.
 #[tactic(auto, unfolding(es_grammar::specs::Items::opens_any_default_class, es_grammar::specs::Expressions::opens_abstract_class))]
 pub fn opens_any_default_class(tokens: &Tokens<'_>, lang: Lang, at: usize) -> bool
     ensures { result ≡ opens_any_default_class lang (keys_of tokens.now.tokens.now) at }
@@ -160,7 +160,7 @@ pub fn opens_any_default_class(tokens: &Tokens<'_>, lang: Lang, at: usize) -> bo
     }
 }
 
-/// Behind `export default` stands an interface.
+/// An interface follows `export default`.
 #[tactic(auto, unfolding(es_grammar::specs::Items::opens_default_interface, es_grammar::specs::Declarations::opens_interface))]
 pub fn opens_default_interface(tokens: &Tokens<'_>, at: usize) -> bool
     ensures { result ≡ opens_default_interface (keys_of tokens.now.tokens.now) at }
@@ -169,7 +169,7 @@ pub fn opens_default_interface(tokens: &Tokens<'_>, at: usize) -> bool
     is(TokenKind::InterfaceWord, tokens.seen_after(at, 2)) && is_near(name) && has_name(name)
 }
 
-/// `=` stands behind `export`.
+/// `=` follows `export`.
 #[tactic(auto, unfolding(es_grammar::specs::Items::opens_export_assignment))]
 pub fn opens_export_assignment(tokens: &Tokens<'_>, at: usize) -> bool
     ensures { result ≡ opens_export_assignment (keys_of tokens.now.tokens.now) at }

@@ -1,4 +1,4 @@
-//! Predicates of what may stand behind an expression, and tests of the next token.
+//! Predicates of what may follow an expression, and tests of the next token.
 
 ghost use Rattle.std.specs.Prelude.{◌≡◌, ◌-◌};
 ghost use Rattle.es_token.specs.declared.token.TokenKind.TheVariants as k;
@@ -35,7 +35,7 @@ pub fn begins_value_here(tokens: &Tokens<'_>, lang: Lang, at: usize) -> bool
     tokens.is_near(at) && begins_value(tokens, lang, at)
 }
 
-/// An operand of `yield` stands here.
+/// An operand of `yield` begins here.
 #[tactic(auto, unfolding(es_grammar::specs::Expressions::opens_operand))]
 pub fn opens_operand(tokens: &Tokens<'_>, lang: Lang, at: usize) -> bool
     ensures { result ≡ opens_operand lang (seen (keys_of tokens.now.tokens.now) at) }
@@ -63,7 +63,7 @@ pub fn begins_angle(tokens: &Tokens<'_>, at: usize) -> bool
     tokens.sees(TokenKind::Less, at) || tokens.sees(TokenKind::LessLess, at)
 }
 
-/// `(`, in TypeScript also `<` or `<<`: of the arguments of a call behind `?.`.
+/// `(`, in TypeScript also `<` or `<<`: of the arguments of a call after `?.`.
 pub fn begins_arguments(tokens: &Tokens<'_>, lang: Lang, at: usize) -> bool
     ensures { result ≡ begins_arguments lang (seen (keys_of tokens.now.tokens.now) at) }
 {
@@ -94,7 +94,7 @@ pub fn begins_callee_post(tokens: &Tokens<'_>, lang: Lang, at: usize) -> bool
     }
 }
 
-/// A further part of a chain of TypeScript stands here.
+/// A further part of a chain of TypeScript begins here.
 #[tactic(auto, unfolding(es_grammar::specs::Expressions::opens_post))]
 pub fn opens_post(tokens: &Tokens<'_>, alloc: Global, at: usize) -> bool
     ensures { result ≡ opens_post (keys_of tokens.now.tokens.now) at }
@@ -139,7 +139,7 @@ pub fn comes_behind(tokens: &Tokens<'_>, kinds: Kinds, at: usize) -> bool
     has(kinds, tokens.seen(at - 1))
 }
 
-/// `var` stands before.
+/// The token before is `var`.
 fn is_behind_var(tokens: &Tokens<'_>, at: usize) -> bool
     ensures { result ≡ is k.VarWord (seen (keys_of tokens.now.tokens.now) (at - 1)) }
 {
@@ -149,7 +149,7 @@ fn is_behind_var(tokens: &Tokens<'_>, at: usize) -> bool
     tokens.sees(TokenKind::VarWord, at - 1)
 }
 
-/// An initial value in the head of a `for`: a name behind `var` and before `=`.
+/// An initial value in the head of a `for`: a name after `var` and before `=`.
 #[tactic(auto, unfolding(es_grammar::specs::Statements::opens_initial))]
 pub fn opens_initial(tokens: &Tokens<'_>, at: usize) -> bool
     ensures { result ≡ opens_initial (keys_of tokens.now.tokens.now) at }
@@ -193,7 +193,7 @@ pub fn opens_comparison(
     }
 }
 
-/// `as` stands before this place.
+/// The token before is `as`.
 #[tactic(auto, unfolding(es_grammar::specs::Expressions::is_behind_as))]
 pub fn is_behind_as(tokens: &Tokens<'_>, at: usize) -> bool
     ensures { result ≡ is_behind_as (keys_of tokens.now.tokens.now) at }

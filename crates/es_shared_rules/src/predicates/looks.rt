@@ -48,7 +48,7 @@ pub fn has_name(next: Option<Seen>) -> bool
     has(Kinds::Name, next)
 }
 
-/// A line end stands before the next token.
+/// A line end precedes the next token.
 #[tactic(auto, unfolding(es_lookahead::specs::Sight::sight))]
 pub fn is_after_line(next: Option<Seen>) -> bool
     ensures { result ≡ is_after_line (sight next) }

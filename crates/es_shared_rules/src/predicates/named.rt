@@ -128,7 +128,7 @@ pub enum Predicate {
     OpensAsyncList(Lang),
     OpensArrowResult(Context),
     OpensNoArrow(Lang, Context),
-    // Type arguments, and what may stand behind an expression.
+    // Type arguments, and what may follow an expression.
     OpensCallArguments,
     OpensNewArguments,
     OpensHeritageArguments,
@@ -141,7 +141,7 @@ pub enum Predicate {
     ComesBehind(Kinds),
     OpensClassName,
     OpensAbstractClass,
-    // Where a row stands.
+    // Where a row is.
     MayAwait(Context),
     MayTest(Context),
     IsModule(Context),

@@ -1,4 +1,4 @@
-//! Operators that may stand behind an operand, by groups of levels.
+//! Operators that may follow an operand, by groups of levels.
 
 ghost use Rattle.std.specs.Prelude.{◌≡◌};
 ghost use Rattle.grammar_theory.specs.Key.{keys_of, seen, has_kind};
@@ -27,7 +27,7 @@ fn is_operator_word(kind: TokenKind) -> bool
         || kind == TokenKind::SatisfiesWord
 }
 
-/// `+`, `-`, `*`, `/` or `%` stands here.
+/// `+`, `-`, `*`, `/` or `%` is here.
 #[tactic(auto, unfolding(crate::specs::predicates::Operators::is_arithmetic, es_lookahead::specs::Sight::sight))]
 pub fn opens_arithmetic(tokens: &Tokens<'_>, at: usize) -> bool
     ensures { result ≡ has_kind is_arithmetic (seen (keys_of tokens.now.tokens.now) at) }
@@ -38,7 +38,7 @@ pub fn opens_arithmetic(tokens: &Tokens<'_>, at: usize) -> bool
     }
 }
 
-/// A token stands here that may begin an operator of shifts, or of the level of `<`.
+/// A token that may begin an operator of shifts, or of the level of `<`, is here.
 #[tactic(auto, unfolding(crate::specs::predicates::Operators::is_comparing, es_lookahead::specs::Sight::sight))]
 pub fn opens_comparing(tokens: &Tokens<'_>, at: usize) -> bool
     ensures { result ≡ has_kind is_comparing (seen (keys_of tokens.now.tokens.now) at) }
@@ -53,7 +53,7 @@ pub fn opens_comparing(tokens: &Tokens<'_>, at: usize) -> bool
     }
 }
 
-/// `&`, `|` or `^` stands here.
+/// `&`, `|` or `^` is here.
 #[tactic(auto, unfolding(crate::specs::predicates::Operators::is_bitwise, es_lookahead::specs::Sight::sight))]
 pub fn opens_bitwise(tokens: &Tokens<'_>, at: usize) -> bool
     ensures { result ≡ has_kind is_bitwise (seen (keys_of tokens.now.tokens.now) at) }
@@ -64,7 +64,7 @@ pub fn opens_bitwise(tokens: &Tokens<'_>, at: usize) -> bool
     }
 }
 
-/// `&&`, `||` or `??` stands here.
+/// `&&`, `||` or `??` is here.
 #[tactic(auto, unfolding(crate::specs::predicates::Operators::is_logical, es_lookahead::specs::Sight::sight))]
 pub fn opens_logical(tokens: &Tokens<'_>, at: usize) -> bool
     ensures { result ≡ has_kind is_logical (seen (keys_of tokens.now.tokens.now) at) }
@@ -81,7 +81,7 @@ pub fn opens_logical(tokens: &Tokens<'_>, at: usize) -> bool
     }
 }
 
-/// A token stands here that may go on behind an operand.
+/// A token that may go on after an operand is here.
 #[tactic(auto, unfolding(crate::specs::predicates::Operators::is_operator, es_lookahead::specs::Sight::sight))]
 pub fn opens_operator(tokens: &Tokens<'_>, at: usize) -> bool
     ensures { result ≡ has_kind is_operator (seen (keys_of tokens.now.tokens.now) at) }

@@ -1,8 +1,10 @@
 //! Where type arguments and type parameters end, found out once for each `<` of a text: from the last one to the first.
 
-ghost use Rattle.std.specs.Prelude.{◌≡◌, ◌≤◌, ◌<◌, true, false, length, IfOk};
-ghost use Rattle.grammar_theory.specs.Key.{keys_of};
+ghost use Rattle.std.specs.Prelude.{◌≡◌, ℕ, ◌≤◌, ◌<◌, true, false, length, None, IfOk, IfSome, OnOk};
+ghost use Rattle.es_token.specs.declared.token.TokenKind.TheVariants as k;
+ghost use Rattle.grammar_theory.specs.Key.{keys_of, seen, is};
 ghost use Rattle.grammar_theory.specs.Fits.{most_nodes};
+ghost use Rattle.es_grammar.specs.types.TypeNames.{begins_angle};
 ghost use Rattle.es_rules.specs.Steps.{keys_in, IsRead};
 ghost use Rattle.es_lookahead.specs.Ends.{IsRight, AreRight, row_end};
 ghost use Rattle.es_type_rules.specs.ends.Kept.{kept_at, kept_or};
@@ -20,14 +22,14 @@ use std::alloc::{AllocError, Global};
 /// The most rows on a path of a tree.
 const MOST_NODES: usize = 501;
 
-/// What is known of the angles behind a place, and how many rows may stand on a path.
+/// What is known of the angles after a place, and how many rows are allowed on a path.
 #[derive(Clone, Copy)]
 pub struct Room<'a> {
     pub angles: &'a [Angle],
     pub rows: usize,
 }
 
-/// Rows of which some are kept, where so many may stand on a path: `read` reads each other one.
+/// Rows of which some are cached, where so many are allowed on a path: `read` reads each other one.
 #[derive(Clone, Copy)]
 struct KeptRing<'a, F> {
     room: Room<'a>,
@@ -110,28 +112,116 @@ fn end_at(input: Input<'_>, angles: &[Angle], row: TypeRow, at: usize) -> Option
     }
 }
 
-/// What is known of an angle, by what is known of those behind it.
+/// What is known of an angle, by what is known of those after it.
 fn angle_of(input: Input<'_>, angles: &[Angle], at: usize) -> Angle
     requires place { at ≤ length input.tokens.tokens.now }
     requires rights { AreRight (keys_in input) angles.now }
     requires silent { input.keeps ≡ false }
-    ensures { IsRight (keys_in input.entry) result }
+    ensures right { IsRight (keys_in input.entry) result }
+    ensures place { result.at ≡ at }
 {
     Angle {
+        first: at,
         at,
         arguments: end_at(input, angles, TypeRow::ArgumentsRow, at),
         parameters: end_at(input, angles, TypeRow::TypeParametersRow, at),
     }
 }
 
-/// `<` or `<<` stands there.
+/// `<` or `<<` is there.
+#[tactic(auto, unfolding(es_grammar::specs::types::TypeNames::begins_angle))]
 fn stands_angle(tokens: &Tokens<'_>, at: usize) -> bool
-    ensures { result ≡ true → at < length tokens.now.tokens.now }
+    ensures kind { result ≡ begins_angle (seen (keys_of tokens.now.tokens.now) at) }
+    ensures within { result ≡ true → at < length tokens.now.tokens.now }
 {
     tokens.stands(TokenKind::Less, at) || tokens.stands(TokenKind::LessLess, at)
 }
 
-/// What is known of each `<` and `<<`, from the last one to the first.
+/// Nothing opens there.
+fn opens_nothing(angle: &Angle) -> bool
+    ensures { result ≡ true → (angle.now.arguments ≡ None) × (angle.now.parameters ≡ None) }
+{
+    angle.arguments.is_none() && angle.parameters.is_none()
+}
+
+/// What is known of an angle and of the last item before it, as one, where nothing opens at either. From the place after the angle
+/// up to `low` nothing begins.
+fn joined(tokens: &Tokens<'_>, last: Angle, low: usize, angle: Angle) -> Option<Angle>
+    requires last { IsRight (keys_of tokens.now.tokens.now) last }
+    requires right { IsRight (keys_of tokens.now.tokens.now) angle }
+    requires between { (q : ℕ) → angle.at < q → q < low → begins_angle (seen (keys_of tokens.now.tokens.now) q) ≡ false }
+    ensures { IfSome result (IsRight (keys_of tokens.now.tokens.now)) }
+{
+    if last.first > low {
+        return None;
+    }
+    if !opens_nothing(&last) {
+        return None;
+    }
+    if !opens_nothing(&angle) {
+        return None;
+    }
+    Some(Angle {
+        first: angle.first,
+        at: last.at,
+        arguments: last.arguments,
+        parameters: last.parameters,
+    })
+}
+
+/// Keeps what is known of an angle, in one item with the last one where nothing opens at either.
+fn keep(
+    tokens: &Tokens<'_>,
+    angles: &mut Vec<Angle>,
+    low: usize,
+    angle: Angle,
+) -> Result<(), AllocError>
+    requires rights { AreRight (keys_of tokens.now.tokens.now) angles.now.items }
+    requires right { IsRight (keys_of tokens.now.tokens.now) angle }
+    requires between { (q : ℕ) → angle.at < q → q < low → begins_angle (seen (keys_of tokens.now.tokens.now) q) ≡ false }
+    ensures { OnOk result (AreRight (keys_of tokens.now.tokens.now) angles.new.items) }
+{
+    let Some(last) = angles.pop() else {
+        angles.push(angle)?;
+        return Ok(());
+    };
+    if let Some(both) = joined(tokens, last, low, angle) {
+        angles.push(both)?;
+        return Ok(());
+    }
+    angles.push(last)?;
+    angles.push(angle)?;
+    Ok(())
+}
+
+/// The place after the last `>`, or 0.
+fn last_closed(tokens: &Tokens<'_>) -> usize
+    ensures { (q : ℕ) → result ≤ q → is k.Greater (seen (keys_of tokens.now.tokens.now) q) ≡ false }
+{
+    let mut left = tokens.tokens.len();
+    'tokens: while left > 0 {
+        if tokens.sees(TokenKind::Greater, left - 1) {
+            return left;
+        }
+        left -= 1;
+    }
+    0
+}
+
+/// What is known of the tokens after the last `>`: nothing that begins there ends.
+fn unclosed(tokens: &Tokens<'_>) -> Angle
+    ensures { IsRight (keys_of tokens.now.tokens.now) result }
+{
+    Angle {
+        first: last_closed(tokens),
+        at: tokens.tokens.len(),
+        arguments: None,
+        parameters: None,
+    }
+}
+
+/// What is known of each `<` and `<<`, from the last one to the first. Those after the last `>` are answered at once: type arguments
+/// and type parameters end with one. Neighbours where nothing opens are one item.
 pub fn angles_of(alloc: Global, tokens: &[Token]) -> Result<Vec<Angle>, AllocError>
     ensures { IfOk result (λ angles. AreRight (keys_of tokens.now) angles.items) }
 {
@@ -145,12 +235,16 @@ pub fn angles_of(alloc: Global, tokens: &[Token]) -> Result<Vec<Angle>, AllocErr
         keeps: false,
     };
     let mut angles: Vec<Angle> = Vec::new(alloc);
-    let mut left = tokens.len();
+    let last = unclosed(&input.tokens);
+    angles.push(last)?;
+    let mut left = last.first;
+    let mut low = left;
     'tokens: while left > 0 {
         left -= 1;
         if stands_angle(&input.tokens, left) {
             let angle = angle_of(input, angles.as_slice(), left);
-            angles.push(angle)?;
+            keep(&input.tokens, &mut angles, low, angle)?;
+            low = left;
         }
     }
     Ok(angles)

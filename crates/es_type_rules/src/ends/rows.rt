@@ -55,7 +55,7 @@ impl ReadsProduction<TypeRow> for ProductionOf {
     }
 }
 
-/// The rows of types, where so many may stand on a path: `read` reads each of them.
+/// The rows of types, with at most `room` on a path: `read` reads each of them.
 #[derive(Clone, Copy)]
 struct Ring<F> {
     room: usize,
@@ -78,7 +78,7 @@ impl<F: Fn(Input<'_>, usize, TypeRow, &mut Cursor) -> Result<usize, SyntaxError>
     }
 }
 
-/// A row, where so many rows may stand on a path.
+/// A row, with at most `room` rows on a path.
 #[tactic(auto, unfolding(es_rules::specs::Bounded::row_at))]
 pub fn read_row(
     input: Input<'_>,

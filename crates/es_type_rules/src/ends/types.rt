@@ -55,8 +55,8 @@ fn read_part(input: Input<'_>, part: TypePart, cursor: &mut Cursor) -> Result<us
     read_row(input, MOST_NODES, part_row(part), cursor)
 }
 
-/// The number behind the last token of a part at a place, with at most so many nodes on a path, or none where there is none.
-/// No entry is written, and no memory taken.
+/// The number after the last token of a part at a place, with at most `room` nodes on a path, or none where there is none.
+/// It writes no entry and allocates nothing.
 pub fn part_end(
     alloc: Global,
     part: TypePart,
@@ -95,7 +95,7 @@ pub fn part_end(
     }
 }
 
-/// The number behind the last token of the type parameters that can be read at a place, or none where none can.
+/// The number after the last token of the type parameters that can be read at a place, or none where none can.
 pub fn type_parameters_end(alloc: Global, tokens: &[Token], at: usize) -> Option<usize>
     requires { at ≤ length tokens.now }
     ensures some { IfSome result (λ to. Reaches TParams (keys_of tokens.now) 500 at to) }
@@ -104,7 +104,7 @@ pub fn type_parameters_end(alloc: Global, tokens: &[Token], at: usize) -> Option
     part_end(alloc, TypePart::TParams, tokens, at, ROOM)
 }
 
-/// The number behind the last token of the type arguments that can be read at a place, or none where none can.
+/// The number after the last token of the type arguments that can be read at a place, or none where none can.
 pub fn type_arguments_end(alloc: Global, tokens: &[Token], at: usize) -> Option<usize>
     requires { at ≤ length tokens.now }
     ensures some { IfSome result (λ to. Reaches TArgs (keys_of tokens.now) 500 at to) }
@@ -113,7 +113,7 @@ pub fn type_arguments_end(alloc: Global, tokens: &[Token], at: usize) -> Option<
     part_end(alloc, TypePart::TArgs, tokens, at, ROOM)
 }
 
-/// What follows type arguments behind an expression.
+/// What follows type arguments after an expression.
 fn follows_arguments(tokens: &Tokens<'_>, in_extends: bool, at: usize) -> bool
     ensures { result ≡ follows_arguments in_extends (seen (keys_of tokens.now.tokens.now) at) }
 {
@@ -127,7 +127,7 @@ fn follows_arguments(tokens: &Tokens<'_>, in_extends: bool, at: usize) -> bool
         && (tokens.sees(TokenKind::OpenBrace, at) || tokens.sees(TokenKind::ImplementsWord, at))
 }
 
-/// Whether type arguments can be read at a place behind an expression, where it stands in `extends` or not.
+/// Whether type arguments can be read at a place after an expression, which is in `extends` or not.
 pub fn is_type_arguments(alloc: Global, tokens: &[Token], at: usize, in_extends: bool) -> bool
     requires { at ≤ length tokens.now }
     ensures { IsTrue result ↔ OpensArguments in_extends (keys_of tokens.now) at }

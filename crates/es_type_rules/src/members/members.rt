@@ -15,7 +15,7 @@ use es_rules::{
 use es_token::TokenKind;
 use grammar_theory::SyntaxError;
 
-/// (':' Ret)?, and what stands behind it
+/// (':' Ret)?, and what follows it
 #[derive(Clone, Copy)]
 pub struct ResultIn<N>(pub N);
 

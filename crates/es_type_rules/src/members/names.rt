@@ -15,7 +15,7 @@ use es_rules::{
 use es_token::TokenKind;
 use grammar_theory::SyntaxError;
 
-/// ('.' Name)*, and what stands behind it
+/// ('.' Name)*, and what follows it
 #[derive(Clone, Copy)]
 pub struct FurtherNames<N>(pub N);
 
@@ -182,7 +182,7 @@ impl ReadsProduction<TypeRow> for Arguments {
     }
 }
 
-/// ('const' | 'in' | 'out')* Name ('extends' Type)? ('=' Type)?, a `,` unless `>` follows, and what stands behind it
+/// ('const' | 'in' | 'out')* Name ('extends' Type)? ('=' Type)?, a `,` unless `>` follows, and what comes next
 #[derive(Clone, Copy)]
 pub struct TypeParameter<N>(pub N);
 
@@ -263,7 +263,7 @@ impl ReadsProduction<TypeRow> for TypeParameters {
     }
 }
 
-/// The same behind `<<`, whose second half is their `<`.
+/// The same after `<<`, whose second half is their `<`.
 #[derive(Clone, Copy)]
 pub struct OpenedParameters;
 

@@ -15,7 +15,7 @@ use es_rules::{
 use es_token::TokenKind;
 use grammar_theory::SyntaxError;
 
-/// TParams? '(' Params ')', and what stands behind it
+/// TParams? '(' Params ')', and what follows it
 #[derive(Clone, Copy)]
 pub struct ParametersIn<N>(pub N);
 
@@ -40,7 +40,7 @@ impl<N: ReadsRhs<TypeRow> + Copy> ReadsRhs<TypeRow> for ParametersIn<N> {
     }
 }
 
-/// '?'?, and what stands behind it
+/// '?'?, and what follows it
 #[derive(Clone, Copy)]
 pub struct MarkIn<N>(pub N);
 
@@ -62,7 +62,7 @@ impl<N: ReadsRhs<TypeRow> + Copy> ReadsRhs<TypeRow> for MarkIn<N> {
     }
 }
 
-/// (':' Type)?, and what stands behind it
+/// (':' Type)?, and what follows it
 #[derive(Clone, Copy)]
 pub struct TypeIn<N>(pub N);
 
@@ -84,7 +84,7 @@ impl<N: ReadsRhs<TypeRow> + Copy> ReadsRhs<TypeRow> for TypeIn<N> {
     }
 }
 
-/// X%: a comma list with an optional last comma, before its closer, and what stands behind it
+/// X%: a comma list with an optional last comma, before its closer, and what follows it
 #[derive(Clone, Copy)]
 pub struct ListBefore<N>(pub TokenKind, pub TypeRow, pub N);
 

@@ -48,7 +48,7 @@ fn is_end(next: Option<Seen>) -> bool
     }
 }
 
-/// A line end stands before the next token.
+/// A line end precedes the next token.
 #[tactic(auto, unfolding(es_lookahead::specs::Sight::sight))]
 fn is_after_line(next: Option<Seen>) -> bool
     ensures { result ≡ is_after_line (sight next) }
@@ -133,7 +133,7 @@ fn opens_condition(next: Option<Seen>) -> bool
     is_near(next) && is(TokenKind::ExtendsWord, next)
 }
 
-/// A parameter stands here: neither `)` nor `...`.
+/// A parameter begins here: neither `)` nor `...`.
 #[tactic(auto, unfolding(es_grammar::specs::types::Parameters::is_parameter))]
 fn is_parameter(next: Option<Seen>) -> bool
     ensures { result ≡ is_parameter (sight next) }
@@ -165,7 +165,7 @@ pub fn opens_parameters(next: Option<Seen>) -> bool
     is(TokenKind::OpenParen, next) || is(TokenKind::Less, next)
 }
 
-/// What may stand behind the name or the pattern of a parameter.
+/// What may follow the name or the pattern of a parameter.
 #[tactic(auto, unfolding(es_grammar::specs::types::Types::follows_parameter))]
 pub fn follows_parameter(next: Option<Seen>) -> bool
     ensures { result ≡ follows_parameter (sight next) }

@@ -88,7 +88,7 @@ pub fn opens_accessor(tokens: &Tokens<'_>, at: usize) -> bool
     has(Kinds::AccessorWord, tokens.seen(at)) && begins_key(tokens.seen_after(at, 1))
 }
 
-/// `(` or `<`, or these behind `?`.
+/// `(` or `<`, also after `?`.
 fn shows_parameters(first: Option<Seen>, second: Option<Seen>) -> bool
     ensures { result ≡ (opens_parameters (sight first) || (is k.Question (sight first) && opens_parameters (sight second))) }
 {

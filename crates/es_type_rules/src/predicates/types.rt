@@ -23,7 +23,7 @@ fn shows_mapped(tokens: &Tokens<'_>, at: usize) -> bool
         && is(TokenKind::InWord, tokens.seen_after(at, 2))
 }
 
-/// `{` before `[ Name in`, behind `readonly`, `+ readonly` or `- readonly` too.
+/// `{`, `{ readonly`, `{ + readonly` or `{ - readonly` before `[ Name in`.
 #[tactic(auto, unfolding(es_grammar::specs::types::Types::opens_mapped))]
 pub fn opens_mapped(tokens: &Tokens<'_>, at: usize) -> bool
     ensures { result ≡ opens_mapped (keys_of tokens.now.tokens.now) at }
@@ -76,7 +76,7 @@ pub fn opens_infer(tokens: &Tokens<'_>, at: usize) -> bool
     tokens.sees(TokenKind::InferWord, at) && has(Kinds::Name, tokens.seen_after(at, 1))
 }
 
-/// Whether the bracket that matches the one at this place stands before `=>`.
+/// Whether the bracket that matches the one at this place precedes `=>`.
 fn closes_before_arrow(tokens: &Tokens<'_>, at: usize) -> bool
     ensures { result ≡ closes_before (is k.Arrow) (keys_of tokens.now.tokens.now) at }
 {
@@ -86,7 +86,7 @@ fn closes_before_arrow(tokens: &Tokens<'_>, at: usize) -> bool
     }
 }
 
-/// Whether the bracket that matches the one at this place stands before what may follow a parameter.
+/// Whether the bracket that matches the one at this place precedes what may follow a parameter.
 fn closes_parameter(tokens: &Tokens<'_>, at: usize) -> bool
     ensures { result ≡ closes_before follows_parameter (keys_of tokens.now.tokens.now) at }
 {
@@ -112,7 +112,7 @@ fn begins_parameters(tokens: &Tokens<'_>, at: usize) -> bool
         && closes_parameter(tokens, at)
 }
 
-/// `(` before parameters whose `)` stands before `=>`, or `<`.
+/// `<`, or `(` before parameters whose `)` precedes `=>`.
 #[tactic(auto, unfolding(es_grammar::specs::types::Types::opens_function))]
 pub fn opens_function(tokens: &Tokens<'_>, at: usize) -> bool
     ensures { result ≡ opens_function (keys_of tokens.now.tokens.now) at }
@@ -127,7 +127,7 @@ pub fn opens_function(tokens: &Tokens<'_>, at: usize) -> bool
     closes_before_arrow(tokens, at) && begins_parameters(tokens, at + 1)
 }
 
-/// `new`, or `abstract` before a `new` that stands before a function type.
+/// `new`, or `abstract` before a `new` that precedes a function type.
 #[tactic(auto, unfolding(es_grammar::specs::types::Types::opens_constructor))]
 pub fn opens_constructor(tokens: &Tokens<'_>, at: usize) -> bool
     ensures { result ≡ opens_constructor (keys_of tokens.now.tokens.now) at }

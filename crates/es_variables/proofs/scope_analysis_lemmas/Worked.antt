@@ -14,9 +14,10 @@ use Rattle.es_variables.specs.declared.scope_analysis.kinds.BindingKind.TheVaria
 use Rattle.es_variables.specs.declared.scope_analysis.kinds.ScopeKind.{ScopeKind}
 use Rattle.es_variables.specs.declared.scope_analysis.kinds.ScopeKind.TheVariants as scope
 use Rattle.es_variables.specs.declared.scope_analysis.steps.Visit.TheVariants as visit
-use Rattle.es_variables.specs.scope_analysis.Part.{Part, token, node, packed, found}
+use Rattle.es_walk.specs.Part.{token, node, packed}
+use Rattle.es_walk.specs.Walk.{found, own}
 use Rattle.es_variables.specs.scope_analysis.Plan.{plan}
-use Rattle.es_variables.specs.scope_analysis.Events.{own}
+use Rattle.es_variables.specs.scope_analysis.Events.{Parts, operand_plan, rules}
 use Rattle.es_variables.specs.declared.scope_analysis.kinds.Id.{Id}
 use Rattle.es_variables.specs.declared.scope_analysis.kinds.Var.{Var}
 use Rattle.es_variables.specs.scope_analysis.Scope.{declarations, named}
@@ -25,7 +26,7 @@ use Rattle.es_variables.specs.scope_analysis.Scope.{declarations, named}
 abbrev Lengths : Type 0
 Lengths = List (TokenKind × ℕ)
 
--- tokens of these lengths, each one blank behind the other
+-- tokens of these lengths, each one blank after the other
 abbrev spaced : ℕ → Lengths → List Token
 spaced start [] = []
 spaced start (it ∷ others) =
@@ -34,16 +35,20 @@ spaced start (it ∷ others) =
 
 -- a tree, by what it is over a text and its tokens
 abbrev Shape : Type 0
-Shape = List ℕ → List Token → Part
+Shape = List ℕ → List Token → Parts
 
-abbrev each : List Shape → List ℕ → List Token → Part
+abbrev each : List Shape → List ℕ → List Token → Parts
 each shapes x ts = packed (map (λ shape. shape x ts) shapes)
 
 abbrev leaf : ℕ → Shape
 leaf at = λ x ts. token at
 
+-- a node over these parts
+abbrev made : List ℕ → List Token → NodeKind → Parts → Parts
+made x ts label p = node label p (own (rules x ts) label p)
+
 abbrev branch : NodeKind → List Shape → Shape
-branch label parts = λ x ts. node label (each parts x ts) (own x ts label (each parts x ts))
+branch label parts = λ x ts. made x ts label (each parts x ts)
 
 abbrev group : List Shape → Shape
 group parts = each parts
@@ -67,7 +72,7 @@ expr e = branch l.ExpressionStatement (e ∷ group [] ∷ [])
 abbrev block : List Shape → Shape
 block stmts = branch l.Block (list stmts ∷ [])
 
--- one declarator behind a word
+-- one declarator after a word
 abbrev variable : ℕ → Shape → Shape
 variable word declarator =
     branch l.VariableDeclaration (branch l.Variables (leaf word ∷ declarator ∷ group [] ∷ []) ∷ group [] ∷ [])
@@ -123,7 +128,7 @@ functions :
     (pat 13 ∷ branch l.NameArrow (leaf 15 ∷ group (name 17 ∷ []) ∷ []) ∷ []) ∷ []) [] ∷ []))
     ≡ one (codes "a") 2 kind.Param (scope.Arrow ∷ []) ∷ one (codes "b") 3 kind.Param (scope.Arrow ∷ scope.Arrow ∷ [])
     ∷ one (codes "f") 1 kind.Function [] ∷ one (codes "e") 4 kind.Param (scope.Function ∷ []) ∷ [])
-unfolding declares own plan ident_of
+unfolding declares own plan operand_plan ident_of
 functions = (refl, refl)
 
 statements :
@@ -157,7 +162,7 @@ statements :
     ((k.ConstWord, 5) ∷ (k.Name, 1) ∷ (k.Equal, 1) ∷ (k.Number, 1) ∷ (k.Semicolon, 1) ∷ []) ((1, 1) ∷ [])
     (script (variable 0 (given_ 1 (number 3)) ∷ []))
     ≡ one (codes "a") 1 kind.Const [] ∷ [])
-unfolding declares own plan ident_of
+unfolding declares own plan operand_plan ident_of
 statements = (refl, refl, refl)
 
 classes :
@@ -195,7 +200,7 @@ classes :
     (leaf 2 ∷ branch l.WordKey (leaf 3 ∷ []) ∷ signature (pat 5 ∷ []) ∷ block (variable 8 (pat 9) ∷ []) ∷ [])
     ∷ group [] ∷ []) ∷ []) ∷ []) ∷ [])) ∷ []))
     ≡ one (codes "b") 2 kind.Let (scope.Block ∷ []) ∷ [])
-unfolding declares own plan ident_of
+unfolding declares own plan operand_plan ident_of
 classes = (refl, refl, refl)
 
 items :
@@ -213,5 +218,5 @@ items :
     (module_ (branch l.AliasDeclaration
     (leaf 1 ∷ group [] ∷ branch l.EntityOfType (leaf 3 ∷ group [] ∷ []) ∷ group [] ∷ []) ∷ []))
     ≡ one (codes "T") 1 kind.TypeName [] ∷ [])
-unfolding declares own plan ident_of
+unfolding declares own plan operand_plan ident_of
 items = (refl, refl)

@@ -9,8 +9,7 @@ use Rattle.es_variables.specs.declared.scope_analysis.kinds.ScopeKind.{ScopeKind
 use Rattle.es_variables.specs.declared.scope_analysis.kinds.Id.{Id}
 use Rattle.es_variables.specs.declared.scope_analysis.kinds.Var.{Var}
 use Rattle.es_variables.specs.declared.scope_analysis.steps.Event.TheVariants as event
-use Rattle.es_variables.specs.scope_analysis.Part.{Events}
-use Rattle.es_variables.specs.scope_analysis.Events.{events}
+use Rattle.es_variables.specs.scope_analysis.Events.{Events, events}
 
 -- the path without its last part
 abbrev pub shorter : List ScopeKind → List ScopeKind

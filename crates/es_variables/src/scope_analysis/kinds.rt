@@ -1,4 +1,4 @@
-//! How names are bound, and what scopes stand around them.
+//! How names are bound, and what scopes enclose them.
 
 ghost use Rattle.std.specs.Prelude.{◌≡◌};
 ghost use Rattle.es_variables.specs.scope_analysis.Kinds.{is_import};
@@ -42,7 +42,7 @@ impl BindingKind {
     }
 }
 
-/// What stands around a name.
+/// What encloses a name.
 #[derive(Clone, Copy, Debug, PartialEq, Eq, Hash)]
 pub enum ScopeKind {
     Arrow,
@@ -62,7 +62,7 @@ pub struct Id {
     pub ctxt: u32,
 }
 
-/// How a name is bound, and what stands around it, the outermost first.
+/// How a name is bound, and what encloses it, the outermost first.
 #[derive(Debug, Drop)]
 pub struct Var {
     pub path: Items<ScopeKind>,

@@ -1,18 +1,17 @@
-//! What a walk over a tree meets of declarations, and where they stand among the parts of a node.
+//! What a walk over a tree meets of declarations, and what it does at a node.
 
 use crate::scope_analysis::kinds::{BindingKind, ScopeKind};
+use es_walk::Path;
 
-/// What is done with what stands at a place.
+/// What is done with a node.
 #[derive(Clone, Copy)]
 pub enum Visit {
     /// It is walked.
     Walks,
     /// It is walked, and is the block of a body, which adds nothing to the path.
     Body,
-    /// It is a pattern whose names are declared so; what else stands in it is passed over.
+    /// It is a pattern whose names are declared so; anything else in it is skipped.
     Names(BindingKind),
-    /// It is passed over.
-    Skips,
 }
 
 /// What a walk meets, in its order.
@@ -33,35 +32,20 @@ pub enum Way {
     Same,
     Walks,
     Body,
-    /// It is walked where the node is, and else passed over.
+    /// It is walked if the node is, and else skipped.
     Inner,
     Names(BindingKind),
     /// Names, by the word that is the node's first part.
     Word,
     /// The body of a method whose key is the part at this place: that of a constructor is a block as any other.
-    Method(usize),
-    /// The same, with the key first in the group there.
-    MethodIn(usize),
+    Method(Path),
+    /// The same as the node, but skipped if it is a name that the class at this place declares.
+    Unless(Path),
 }
 
-/// What stands in a turn of a list. Parts count from 0.
+/// What is met at a node itself. Parts count from 0.
 #[derive(Clone, Copy)]
-pub enum Turn {
-    /// The part at this place.
-    At(Way, usize),
-    /// What may stand in its first part.
-    Hole(Way),
-    /// A key, and what it may be given.
-    Member,
-    /// A test that may be absent, and statements.
-    Case,
-    /// The right operand of a sign.
-    Operand,
-}
-
-/// What stands among the parts of a node, in the order of the walk. Parts count from 0.
-#[derive(Clone, Copy)]
-pub enum Step {
+pub enum Act {
     Enter(ScopeKind),
     /// The same, but for the block of a body.
     EnterApart(ScopeKind),
@@ -73,18 +57,6 @@ pub enum Step {
     Name(usize),
     /// The name of a function or a class, which may be absent.
     Own(BindingKind, usize),
-    /// The part at this place.
-    At(Way, usize),
-    /// The part at the second place of the group at the first; so also what may stand there, at 0.
-    In(Way, usize, usize),
-    /// The part at the third place of the group at the second, in that at the first.
-    Deep(Way, usize, usize, usize),
-    /// Each turn of the list at this place.
-    Turns(usize, Turn),
-    /// Each turn of the list at the second place of the group at the first.
-    TurnsIn(usize, usize, Turn),
-    /// The names of a variable, which is the first part, by its value, the part at this place.
-    Variable(usize),
-    /// The same, with the value in the group there.
-    VariableIn(usize),
+    /// The name of the class at this place, if the first part is declared and is the same name.
+    Class(Path),
 }

@@ -15,7 +15,7 @@ use es_ast::ImportPhase;
 use es_grammar::NodeKind;
 use es_syntax::{Item, Siblings, What};
 
-/// What stands along a chain. Numbers are those of tokens.
+/// What occurs along a chain. Numbers are those of tokens.
 #[derive(Clone, Copy)]
 pub enum Call<'a> {
     /// `super`
@@ -35,7 +35,7 @@ pub enum Call<'a> {
         callee: Item<'a>,
         args: Siblings<'a>,
     },
-    /// `a.b(c)[d]`: what it begins with, what is behind that, and turns of what is behind these.
+    /// `a.b(c)[d]`: its base, the first part after it, and turns of the parts after that.
     Chain {
         base: Item<'a>,
         first: Item<'a>,
@@ -82,7 +82,7 @@ fn new_<'a>(parts: &Siblings<'a>) -> Call<'a>
     }
 }
 
-/// `a.b(c)[d]`: what it begins with, what is behind that, and turns of what is behind these.
+/// `a.b(c)[d]`: its base, the first part after it, and turns of the parts after that.
 #[tactic(auto, unfolding(es_lowering::specs::Expressions::chain, crate::specs::call::Call::chained_of))]
 fn chain<'a>(parts: &Siblings<'a>) -> Call<'a>
     ensures form { (x : List ℕ) (ts : List Tok) (r : Range) → chain r (held x ts parts.now.entries.now) ≡ the_call x ts r result }

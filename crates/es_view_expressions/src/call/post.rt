@@ -1,4 +1,4 @@
-//! What stands behind the base of a chain.
+//! What follows the base of a chain.
 
 ghost use Rattle.std.specs.Prelude.{◌≡◌, ℕ, List, IfSome, IfNone};
 ghost use Rattle.base.specs.declared.range.Range.{Range};
@@ -14,7 +14,7 @@ ghost use Rattle.es_view_expressions.specs.call.Post.{posts, the_post, IsBelow};
 use es_grammar::NodeKind;
 use es_syntax::{Item, Siblings, What};
 
-/// A further part of a chain, with its parts where they stand. Numbers are those of tokens.
+/// A further part of a chain, with its parts in place. Numbers are those of tokens.
 #[derive(Clone, Copy)]
 pub enum Post<'a> {
     /// `.a`
@@ -23,21 +23,21 @@ pub enum Post<'a> {
     Index(Item<'a>),
     /// `(a)`: the node of the arguments.
     Call(Item<'a>),
-    /// A template behind a tag.
+    /// A template after a tag.
     Template(Item<'a>),
-    /// `?.a`, `?.[a]`, `?.(a)`: what stands behind the sign.
+    /// `?.a`, `?.[a]`, `?.(a)`: what follows `?.`.
     Optional(Item<'a>),
     /// `<T>(a)`: the node of the arguments.
     TypedCall {
         type_args: Siblings<'a>,
         args: Item<'a>,
     },
-    /// A template behind a tag with types.
+    /// A template after a tag with types.
     TypedTemplate {
         type_args: Siblings<'a>,
         tpl: Item<'a>,
     },
-    /// `?.a`, `?.[a]`, `?.<T>(a)`: what stands behind the sign.
+    /// `?.a`, `?.[a]`, `?.<T>(a)`: what follows `?.`.
     TypedOptional(Item<'a>),
     /// `!`
     NonNull,
@@ -81,7 +81,7 @@ fn call<'a>(parts: &Siblings<'a>) -> Post<'a>
     }
 }
 
-/// A template behind a tag.
+/// A template after a tag.
 #[tactic(auto, unfolding(es_lowering::specs::Expressions::template_post, crate::specs::call::Post::tagged))]
 fn template<'a>(parts: &Siblings<'a>) -> Post<'a>
     ensures form { (x : List ℕ) (ts : List Tok) (r : Range) → template_post r (held x ts parts.now.entries.now) ≡ the_post x ts r result }
@@ -93,7 +93,7 @@ fn template<'a>(parts: &Siblings<'a>) -> Post<'a>
     }
 }
 
-/// `?.a`, `?.[a]`, `?.(a)`: what stands behind the sign.
+/// `?.a`, `?.[a]`, `?.(a)`: what follows `?.`.
 #[tactic(auto, unfolding(es_lowering::specs::Expressions::optional_post, crate::specs::call::Post::optioned))]
 fn optional<'a>(parts: &Siblings<'a>) -> Post<'a>
     ensures form { (x : List ℕ) (ts : List Tok) (r : Range) → optional_post x ts r (held x ts parts.now.entries.now) ≡ the_post x ts r result }
@@ -120,7 +120,7 @@ fn typed_call<'a>(parts: &Siblings<'a>) -> Post<'a>
     }
 }
 
-/// A template behind a tag with types.
+/// A template after a tag with types.
 #[tactic(auto, unfolding(es_lowering::specs::TypedExpressions::typed_template_post, crate::specs::call::Post::typed_tagged))]
 fn typed_template<'a>(parts: &Siblings<'a>) -> Post<'a>
     ensures form { (x : List ℕ) (ts : List Tok) (r : Range) → typed_template_post r (held x ts parts.now.entries.now) ≡ the_post x ts r result }
@@ -135,7 +135,7 @@ fn typed_template<'a>(parts: &Siblings<'a>) -> Post<'a>
     }
 }
 
-/// `?.a`, `?.[a]`, `?.<T>(a)`: what stands behind the sign.
+/// `?.a`, `?.[a]`, `?.<T>(a)`: what follows `?.`.
 #[tactic(auto, unfolding(es_lowering::specs::TypedExpressions::typed_optional_post, crate::specs::call::Post::typed_optioned))]
 fn typed_optional<'a>(parts: &Siblings<'a>) -> Post<'a>
     ensures form { (x : List ℕ) (ts : List Tok) (r : Range) → typed_optional_post x ts r (held x ts parts.now.entries.now) ≡ the_post x ts r result }

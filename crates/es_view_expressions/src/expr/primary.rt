@@ -13,7 +13,7 @@ ghost use Rattle.es_view_expressions.specs.expr.Primary.{primaries, the_primary,
 use es_grammar::NodeKind;
 use es_syntax::{Item, Siblings, What};
 
-/// A primary expression, with its parts where they stand. Numbers are those of tokens.
+/// A primary expression, with its parts in place. Numbers are those of tokens.
 #[derive(Clone, Copy)]
 pub enum Primary<'a> {
     Ident(u32),
@@ -25,7 +25,7 @@ pub enum Primary<'a> {
     RegExp(u32),
     /// A template without holes.
     Template(u32),
-    /// Its first piece, what stands in the first hole, the turns of a piece and what stands behind it, and its last piece.
+    /// Its first piece, what is in the first hole, the turns of a piece and what follows it, and its last piece.
     TemplateParts {
         head: u32,
         first: Item<'a>,

@@ -1,4 +1,4 @@
-//! What stands in a class.
+//! The parts of a class.
 
 ghost use Rattle.std.specs.Prelude.{◌≡◌, ℕ, List};
 ghost use Rattle.base.specs.declared.range.Range.{Range};
@@ -10,7 +10,7 @@ ghost use Rattle.es_view_expressions.specs.function.Class.{the_class, IsBelow};
 
 use es_syntax::{Item, Siblings};
 
-/// What stands in a class, where it stands. Members are turns.
+/// The parts of a class, in place. Members are turns.
 #[derive(Clone, Copy)]
 pub enum ClassHead<'a> {
     /// A name or none, what it extends or none, its members.

@@ -17,19 +17,19 @@ use es_syntax::{Item, Siblings, What};
 /// A function or a class as an expression. Numbers are those of tokens.
 #[derive(Clone, Copy)]
 pub enum Function<'a> {
-    /// `function a(b) {}`, behind `async` or not: its parts, which `plain_function` tells.
+    /// `function a(b) {}`, with or without `async`: its parts, which `plain_function` reads.
     Plain {
         is_async: bool,
         parts: Siblings<'a>,
     },
-    /// The same of TypeScript, which `typed_function` tells.
+    /// The same of TypeScript, which `typed_function` reads.
     Typed {
         is_async: bool,
         parts: Siblings<'a>,
     },
-    /// `class a {}`: its parts, which `plain_class` tells.
+    /// `class a {}`: its parts, which `plain_class` reads.
     Class(Siblings<'a>),
-    /// The same of TypeScript, behind `abstract` or not, which `typed_class` tells.
+    /// The same of TypeScript, with or without `abstract`, which `typed_class` reads.
     TypedClass {
         is_abstract: bool,
         parts: Siblings<'a>,

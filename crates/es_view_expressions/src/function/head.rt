@@ -1,4 +1,4 @@
-//! What stands in a function.
+//! The parts of a function.
 
 ghost use Rattle.std.specs.Prelude.{◌≡◌, ℕ, List};
 ghost use Rattle.base.specs.declared.range.Range.{Range};
@@ -10,7 +10,7 @@ ghost use Rattle.es_view_expressions.specs.function.Head.{the_head, IsBelow};
 
 use es_syntax::{Item, Siblings};
 
-/// What stands in a function, where it stands.
+/// The parts of a function, in place.
 #[derive(Clone, Copy)]
 pub enum FunctionHead<'a> {
     /// A star or none, a name or none, the parameters, the body.

@@ -16,7 +16,7 @@ ghost use Rattle.es_view_expressions.specs.member.Prop.{props, the_prop, IsBelow
 use es_grammar::NodeKind;
 use es_syntax::{Item, Siblings, What};
 
-/// A property of an object, with its parts where they stand. Numbers are those of tokens.
+/// A property of an object, with its parts in place. Numbers are those of tokens.
 #[derive(Clone, Copy)]
 pub enum Prop<'a> {
     /// `async *a() {}`, `*a() {}`, `a() {}`
@@ -200,7 +200,7 @@ fn typed_method<'a>(is_async: bool, is_generator: bool, parts: &Siblings<'a>) ->
     }
 }
 
-/// The same behind `async`.
+/// The same after `async`.
 #[tactic(auto, unfolding(es_lowering::specs::TypedFunctions::typed_method_property, crate::specs::member::Prop::typed_method))]
 fn typed_async_method<'a>(parts: &Siblings<'a>) -> Prop<'a>
     ensures form { (x : List ℕ) (ts : List Tok) (r : Range) → typed_method_property ts vMethod.Method true (is_there (group (held x ts parts.now.entries.now) 0)) r (held x ts parts.now.entries.now) 1 ≡ the_prop x ts r result }

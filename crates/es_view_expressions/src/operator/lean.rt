@@ -1,4 +1,4 @@
-//! Chains of operators that lean left, without recursion along them.
+//! Chains of left-associative operators, without recursion along them.
 
 ghost use Rattle.std.specs.Prelude.{◌≡◌, ℕ, List, IfSome, IfNone};
 ghost use Rattle.base.specs.declared.range.Range.{Range};
@@ -10,7 +10,7 @@ ghost use Rattle.es_view_expressions.specs.operator.Lean.{the_chain, the_turn, I
 
 use es_syntax::{Item, Lean, Siblings, What};
 
-/// `a + b - c`: where the chain begins, the first operand, and what is behind it, one turn after the other.
+/// `a + b - c`: where the chain begins, its first operand, and what follows it, one turn after the other.
 #[derive(Clone, Copy)]
 pub struct Chain<'a> {
     pub lean: Lean,
@@ -20,12 +20,12 @@ pub struct Chain<'a> {
     pub others: Siblings<'a>,
 }
 
-/// What stands behind an operand.
+/// What follows an operand.
 #[derive(Clone, Copy)]
 pub enum Turn<'a> {
-    /// An operator, which stands between the two, and its right operand.
+    /// An operator, which is between the two, and its right operand.
     Operand(Item<'a>),
-    /// The same of TypeScript, or `as` and `satisfies` with their types: the group that tells it.
+    /// The same of TypeScript, or `as` and `satisfies` with their types: the group that says which.
     Typed(Siblings<'a>),
     /// A part is not there.
     Broken,
@@ -58,7 +58,7 @@ pub fn chain_at<'a>(node: &Item<'a>) -> Option<Chain<'a>>
     }
 }
 
-/// What the parts of a turn are behind any operand.
+/// What the parts of a turn are after any operand.
 #[tactic(auto, unfolding(es_lowering::specs::Lowering::expr_of, es_lowering::specs::Expressions::binary, es_lowering::specs::TypedExpressions::typed_binary, crate::specs::operator::Operator::joined, crate::specs::operator::Operator::turned))]
 pub fn turn_at<'a>(lean: Lean, parts: &Siblings<'a>) -> Turn<'a>
     ensures form { (x : List ℕ) (ts : List Tok) (r : Range) (from : ℕ) (v : Value) →

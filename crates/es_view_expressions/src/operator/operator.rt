@@ -14,7 +14,7 @@ ghost use Rattle.es_view_expressions.specs.operator.Operator.{operators, the_ope
 use es_grammar::NodeKind;
 use es_syntax::{Item, Siblings, What};
 
-/// An operator with its operands where they stand. Numbers are those of tokens.
+/// An operator with its operands in place. Numbers are those of tokens.
 #[derive(Clone, Copy)]
 pub enum Operator<'a> {
     /// `++a`: its sign and its operand.
@@ -34,7 +34,7 @@ pub enum Operator<'a> {
     },
     /// `await a`
     Await(Item<'a>),
-    /// `a + b`: the operator stands between the two.
+    /// `a + b`: the operator is between the two.
     Binary {
         left: Item<'a>,
         right: Item<'a>,
@@ -50,7 +50,7 @@ pub enum Operator<'a> {
         cons: Item<'a>,
         alt: Item<'a>,
     },
-    /// `a = b`: the operator stands between the two.
+    /// `a = b`: the operator is between the two.
     Assignment {
         left: Item<'a>,
         right: Item<'a>,
@@ -62,7 +62,7 @@ pub enum Operator<'a> {
     },
     /// `yield *a`: a group of a star or none and what is yielded, or of nothing.
     Yield(Siblings<'a>),
-    /// `a < b`, `a as T`: the left operand, and a group of what stands behind it.
+    /// `a < b`, `a as T`: the left operand, and a group of what follows it.
     TypedBinary {
         left: Item<'a>,
         turn: Siblings<'a>,
@@ -134,7 +134,7 @@ fn await_<'a>(parts: &Siblings<'a>) -> Operator<'a>
     }
 }
 
-/// `a + b`: the operator stands between the two.
+/// `a + b`: the operator is between the two.
 #[tactic(auto, unfolding(es_lowering::specs::Expressions::binary, crate::specs::operator::Operator::joined))]
 fn binary<'a>(parts: &Siblings<'a>) -> Operator<'a>
     ensures form { (x : List ℕ) (ts : List Tok) (r : Range) → binary ts r (held x ts parts.now.entries.now) ≡ the_operator x ts r result }
@@ -182,7 +182,7 @@ fn conditional<'a>(parts: &Siblings<'a>) -> Operator<'a>
     }
 }
 
-/// `a = b`: the operator stands between the two.
+/// `a = b`: the operator is between the two.
 #[tactic(auto, unfolding(es_lowering::specs::Expressions::assignment, crate::specs::operator::Operator::assigned))]
 fn assignment<'a>(parts: &Siblings<'a>) -> Operator<'a>
     ensures form { (x : List ℕ) (ts : List Tok) (r : Range) → assignment ts r (held x ts parts.now.entries.now) ≡ the_operator x ts r result }
@@ -221,7 +221,7 @@ fn yield_<'a>(parts: &Siblings<'a>) -> Operator<'a>
     Operator::Yield(parts.group_at(0))
 }
 
-/// `a < b`, `a as T`: the left operand, and a group of what stands behind it.
+/// `a < b`, `a as T`: the left operand, and a group of what follows it.
 #[tactic(auto, unfolding(es_lowering::specs::TypedExpressions::typed_binary, crate::specs::operator::Operator::turned))]
 fn typed_binary<'a>(parts: &Siblings<'a>) -> Operator<'a>
     ensures form { (x : List ℕ) (ts : List Tok) (r : Range) → typed_binary ts r (held x ts parts.now.entries.now) ≡ the_operator x ts r result }

@@ -1,4 +1,4 @@
-//! Patterns that may have `?` or a type behind them.
+//! Patterns that may be followed by `?` or a type.
 
 ghost use Rattle.std.specs.Prelude.{◌≡◌, ℕ, List, IfSome, IfNone};
 ghost use Rattle.es_token.specs.declared.token.Token.{Token as Tok};
@@ -11,7 +11,7 @@ ghost use Rattle.es_view_expressions.specs.pattern.Marked.{marked_patterns, the_
 use es_grammar::NodeKind;
 use es_syntax::{Item, Siblings, What};
 
-/// A pattern, with its parts where they stand. Numbers are those of tokens.
+/// A pattern, with its parts in place. Numbers are those of tokens.
 #[derive(Clone, Copy)]
 pub enum Marked<'a> {
     /// `a`
@@ -57,7 +57,7 @@ fn object<'a>(parts: &Siblings<'a>) -> Marked<'a>
     Marked::Object(parts.group_at(0))
 }
 
-/// What a node is as a pattern that may have `?` or a type behind it; none where it is of another alternative.
+/// What a node is as a pattern that may be followed by `?` or a type; none where it is of another alternative.
 #[tactic(auto, unfolding(es_lowering::specs::Lowering::build, es_lowering::specs::Lowering::marked_of))]
 pub fn marked_at<'a>(node: &Item<'a>) -> Option<Marked<'a>>
     ensures form { (x : List ℕ) (ts : List Tok) → IfSome result (λ view. marked_in (valued x ts node.now) ≡ the_marked x ts view) }

@@ -15,7 +15,7 @@ ghost use Rattle.es_view_expressions.specs.pattern.Pat.{patterns, the_pat, IsBel
 use es_grammar::NodeKind;
 use es_syntax::{Item, Siblings, What};
 
-/// A pattern, with its parts where they stand. Numbers are those of tokens.
+/// A pattern, with its parts in place. Numbers are those of tokens.
 #[derive(Clone, Copy)]
 pub enum Pat<'a> {
     /// `a`

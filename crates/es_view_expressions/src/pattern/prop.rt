@@ -13,7 +13,7 @@ ghost use Rattle.es_view_expressions.specs.pattern.PatProp.{pattern_props, the_p
 use es_grammar::NodeKind;
 use es_syntax::{Item, Siblings, What};
 
-/// A property of an object pattern, with its parts where they stand. Numbers are those of tokens.
+/// A property of an object pattern, with its parts in place. Numbers are those of tokens.
 #[derive(Clone, Copy)]
 pub enum PatProp<'a> {
     /// `...a`

@@ -15,17 +15,17 @@ ghost use Rattle.es_view_modules.specs.items.Export.{exports, the_export, IsBelo
 use es_grammar::NodeKind;
 use es_syntax::{Item, Siblings, What};
 
-/// An export, with its parts where they stand. Numbers are those of tokens.
+/// An export, with its parts as cursors. Numbers are those of tokens.
 #[derive(Clone, Copy)]
 pub enum Export<'a> {
-    /// `export * as a from "b"`, behind `type` or not: the name and attributes may be absent.
+    /// `export * as a from "b"`, with optional `type`: the name and attributes may be absent.
     All {
         type_only: bool,
         exported: Siblings<'a>,
         source: u32,
         attributes: Siblings<'a>,
     },
-    /// `export { a } from "b"`, behind `type` or not: its names as turns; what is behind `from` may be absent.
+    /// `export { a } from "b"`, with optional `type`: its names as turns; what follows `from` may be absent.
     Names {
         type_only: bool,
         specifiers: Siblings<'a>,
@@ -45,7 +45,7 @@ pub enum Export<'a> {
     Broken,
 }
 
-/// `export * as a from "b"`, behind `type` or not: the name and attributes may be absent.
+/// `export * as a from "b"`, with optional `type`: the name and attributes may be absent.
 #[tactic(auto, unfolding(es_lowering::specs::Modules::export_all, crate::specs::items::Export::all))]
 fn all<'a>(parts: &Siblings<'a>) -> Export<'a>
     ensures form { (x : List ℕ) (ts : List Tok) (r : Range) → export_all x ts r (held x ts parts.now.entries.now) ≡ the_export x ts r result }
@@ -62,7 +62,7 @@ fn all<'a>(parts: &Siblings<'a>) -> Export<'a>
     }
 }
 
-/// `export { a } from "b"`, behind `type` or not: its names as turns; what is behind `from` may be absent.
+/// `export { a } from "b"`, with optional `type`: its names as turns; what follows `from` may be absent.
 #[tactic(auto, unfolding(es_lowering::specs::Modules::export_names, crate::specs::items::Export::names))]
 fn names<'a>(parts: &Siblings<'a>) -> Export<'a>
     ensures form { (x : List ℕ) (ts : List Tok) (r : Range) → export_names x ts r (held x ts parts.now.entries.now) ≡ the_export x ts r result }

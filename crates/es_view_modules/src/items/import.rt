@@ -15,7 +15,7 @@ use es_ast::ImportPhase;
 use es_grammar::NodeKind;
 use es_syntax::{Item, Siblings, What};
 
-/// An import, with its parts where they stand. Numbers are those of tokens.
+/// An import, with its parts as cursors. Numbers are those of tokens.
 #[derive(Clone, Copy)]
 pub enum Import<'a> {
     /// `import "a"`: attributes may be absent.
@@ -23,7 +23,7 @@ pub enum Import<'a> {
         source: u32,
         attributes: Siblings<'a>,
     },
-    /// `import a from "b"`, behind `type` or not.
+    /// `import a from "b"`, with optional `type`.
     From {
         type_only: bool,
         clause: Item<'a>,
@@ -37,14 +37,14 @@ pub enum Import<'a> {
         source: u32,
         attributes: Siblings<'a>,
     },
-    /// `import a = require("b")`, behind `export` or not.
+    /// `import a = require("b")`, with optional `export`.
     Require {
         is_export: bool,
         type_only: bool,
         name: u32,
         source: Item<'a>,
     },
-    /// `import a = b.c`, behind `export` or not.
+    /// `import a = b.c`, with optional `export`.
     Entity {
         is_export: bool,
         type_only: bool,
@@ -70,7 +70,7 @@ fn bare<'a>(parts: &Siblings<'a>) -> Import<'a>
     }
 }
 
-/// `import a from "b"`, behind `type` or not.
+/// `import a from "b"`, with optional `type`.
 #[tactic(auto, unfolding(es_lowering::specs::Modules::from_import, crate::specs::items::Import::from_of))]
 fn from_<'a>(parts: &Siblings<'a>) -> Import<'a>
     ensures form { (x : List ℕ) (ts : List Tok) (r : Range) → from_import x ts r (held x ts parts.now.entries.now) ≡ the_import x ts r result }
@@ -110,7 +110,7 @@ fn phased<'a>(phase: ImportPhase, parts: &Siblings<'a>) -> Import<'a>
     }
 }
 
-/// `import a = require("b")`, behind `export` or not.
+/// `import a = require("b")`, with optional `export`.
 #[tactic(auto, unfolding(es_lowering::specs::Modules::require_import, crate::specs::items::Import::require))]
 fn require<'a>(is_export: bool, parts: &Siblings<'a>) -> Import<'a>
     ensures form { (x : List ℕ) (ts : List Tok) (r : Range) → require_import x ts is_export r (held x ts parts.now.entries.now) ≡ the_import x ts r result }
@@ -130,7 +130,7 @@ fn require<'a>(is_export: bool, parts: &Siblings<'a>) -> Import<'a>
     }
 }
 
-/// `import a = b.c`, behind `export` or not.
+/// `import a = b.c`, with optional `export`.
 #[tactic(auto, unfolding(es_lowering::specs::Modules::entity_import, crate::specs::items::Import::aliased))]
 fn entity<'a>(is_export: bool, parts: &Siblings<'a>) -> Import<'a>
     ensures form { (x : List ℕ) (ts : List Tok) (r : Range) → entity_import x ts is_export r (held x ts parts.now.entries.now) ≡ the_import x ts r result }

@@ -13,15 +13,15 @@ ghost use Rattle.es_view_modules.specs.items.Program.{programs, the_program, IsB
 use es_grammar::NodeKind;
 use es_syntax::{Item, Siblings, What};
 
-/// A program, with its parts where they stand.
+/// A program, with its parts as cursors.
 #[derive(Clone, Copy)]
 pub enum Program<'a> {
-    /// A module: a line behind `#!` or none, and its items as turns.
+    /// A module: a `#!` line or none, and its items as turns.
     Module {
         shebang: Siblings<'a>,
         body: Siblings<'a>,
     },
-    /// A script: a line behind `#!` or none, and its statements as turns.
+    /// A script: a `#!` line or none, and its statements as turns.
     Script {
         shebang: Siblings<'a>,
         body: Siblings<'a>,
@@ -30,7 +30,7 @@ pub enum Program<'a> {
     Broken,
 }
 
-/// A module: a line behind `#!` or none, and its items as turns.
+/// A module: a `#!` line or none, and its items as turns.
 #[tactic(auto, unfolding(es_lowering::specs::Modules::module_, crate::specs::items::Program::module_of))]
 fn module<'a>(parts: &Siblings<'a>) -> Program<'a>
     ensures form { (x : List ℕ) (ts : List Tok) (r : Range) → module_ x ts r (held x ts parts.now.entries.now) ≡ the_program x ts r result }
@@ -42,7 +42,7 @@ fn module<'a>(parts: &Siblings<'a>) -> Program<'a>
     }
 }
 
-/// A script: a line behind `#!` or none, and its statements as turns.
+/// A script: a `#!` line or none, and its statements as turns.
 #[tactic(auto, unfolding(es_lowering::specs::Modules::script, crate::specs::items::Program::script_of))]
 fn script<'a>(parts: &Siblings<'a>) -> Program<'a>
     ensures form { (x : List ℕ) (ts : List Tok) (r : Range) → script x ts r (held x ts parts.now.entries.now) ≡ the_program x ts r result }

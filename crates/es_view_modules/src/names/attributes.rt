@@ -13,7 +13,7 @@ ghost use Rattle.es_view_modules.specs.names.Attributes.{attribute_labels, the_a
 use es_grammar::NodeKind;
 use es_syntax::{Item, Siblings, What};
 
-/// Import attributes, where they stand.
+/// Import attributes, as a cursor.
 #[derive(Clone, Copy)]
 pub enum Attributes<'a> {
     /// `with { a: "b" }`: turns of a name and a string.

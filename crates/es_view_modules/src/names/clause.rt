@@ -13,7 +13,7 @@ ghost use Rattle.es_view_modules.specs.names.Clause.{clauses, the_clause, IsBelo
 use es_grammar::NodeKind;
 use es_syntax::{Item, Siblings, What};
 
-/// What an import binds, where it stands. Numbers are those of tokens.
+/// What an import binds, as cursors. Numbers are those of tokens.
 #[derive(Clone, Copy)]
 pub enum Clause<'a> {
     /// `a`

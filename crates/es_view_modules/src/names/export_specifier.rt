@@ -16,7 +16,7 @@ use es_syntax::{Item, Siblings, What};
 /// A name in the braces of an export. Numbers are those of tokens.
 #[derive(Clone, Copy)]
 pub enum ExportName<'a> {
-    /// `a as b`, behind `type` or not: the name behind `as` may be absent.
+    /// `a as b`, with optional `type`: the name after `as` may be absent.
     Exported {
         type_only: bool,
         orig: u32,
@@ -26,7 +26,7 @@ pub enum ExportName<'a> {
     Broken,
 }
 
-/// `a as b`, behind `type` or not: the name behind `as` may be absent.
+/// `a as b`, with optional `type`: the name after `as` may be absent.
 #[tactic(auto, unfolding(es_lowering::specs::Modules::exported_name, crate::specs::names::ExportSpecifier::exported_as))]
 fn exported<'a>(parts: &Siblings<'a>) -> ExportName<'a>
     ensures form { (x : List ℕ) (ts : List Tok) (r : Range) → exported_name x ts r (held x ts parts.now.entries.now) ≡ the_export_specifier x ts r result }

@@ -16,13 +16,13 @@ use es_syntax::{Item, Siblings, What};
 /// A name in the braces of an import. Numbers are those of tokens.
 #[derive(Clone, Copy)]
 pub enum ImportName {
-    /// `a as b`, behind `type` or not.
+    /// `a as b`, with optional `type`.
     Renamed {
         type_only: bool,
         imported: u32,
         local: u32,
     },
-    /// `a`, behind `type` or not.
+    /// `a`, with optional `type`.
     Same {
         type_only: bool,
         local: u32,
@@ -31,7 +31,7 @@ pub enum ImportName {
     Broken,
 }
 
-/// `a as b`, behind `type` or not.
+/// `a as b`, with optional `type`.
 #[tactic(auto, unfolding(es_lowering::specs::Modules::renamed_import, crate::specs::names::ImportSpecifier::renamed))]
 fn renamed(parts: &Siblings<'_>) -> ImportName
     ensures form { (x : List ℕ) (ts : List Tok) (r : Range) → renamed_import x ts r (held x ts parts.now.entries.now) ≡ the_import_specifier x ts r result }
@@ -50,7 +50,7 @@ fn renamed(parts: &Siblings<'_>) -> ImportName
     }
 }
 
-/// `a`, behind `type` or not.
+/// `a`, with optional `type`.
 #[tactic(auto, unfolding(es_lowering::specs::Modules::imported_name, crate::specs::names::ImportSpecifier::same))]
 fn same(parts: &Siblings<'_>) -> ImportName
     ensures form { (x : List ℕ) (ts : List Tok) (r : Range) → imported_name x ts r (held x ts parts.now.entries.now) ≡ the_import_specifier x ts r result }

@@ -13,7 +13,7 @@ ghost use Rattle.es_view_modules.specs.names.Names.{name_labels, the_names, IsBe
 use es_grammar::NodeKind;
 use es_syntax::{Item, Siblings, What};
 
-/// Names that an import binds, where they stand. Numbers are those of tokens.
+/// Names that an import binds, as cursors. Numbers are those of tokens.
 #[derive(Clone, Copy)]
 pub enum Names<'a> {
     /// `* as a`

@@ -16,14 +16,14 @@ ghost use Rattle.es_view_statements.specs.class.Member.{members, the_member, IsB
 use es_grammar::NodeKind;
 use es_syntax::{Item, Siblings, What};
 
-/// A member of a class, with its parts where they stand. Numbers are those of tokens.
+/// A member of a class, with its parts in place. Numbers are those of tokens.
 #[derive(Clone, Copy)]
 pub enum Member<'a> {
     /// `;`
     Empty,
     /// `static { a }`: the node of the block.
     StaticBlock(Item<'a>),
-    /// `async *a() {}`, `*a() {}`, `a() {}`, behind `static` or not.
+    /// `async *a() {}`, `*a() {}`, `a() {}`, with or without `static`.
     Method {
         is_static: bool,
         is_async: bool,
@@ -32,7 +32,7 @@ pub enum Member<'a> {
         params: Item<'a>,
         body: Item<'a>,
     },
-    /// `get a() {}`, behind `static` or not.
+    /// `get a() {}`, with or without `static`.
     Accessor {
         is_static: bool,
         word: u32,
@@ -40,14 +40,14 @@ pub enum Member<'a> {
         params: Item<'a>,
         body: Item<'a>,
     },
-    /// `a = b`, behind `static` or not, behind `accessor` or not: the value may be absent.
+    /// `a = b`, with or without each of `static` and `accessor`: the value may be absent.
     Field {
         is_static: bool,
         is_accessor: bool,
         key: Item<'a>,
         value: Siblings<'a>,
     },
-    /// A method of TypeScript: its modifiers as turns, its key, whether a mark stands behind that, its signature, a body or
+    /// A method of TypeScript: its modifiers as turns, its key, whether a mark follows it, its signature, a body or
     /// none.
     TypedMethod {
         modifiers: Siblings<'a>,
@@ -58,7 +58,7 @@ pub enum Member<'a> {
         signature: Item<'a>,
         body: Siblings<'a>,
     },
-    /// The same behind `get` or `set`.
+    /// The same after `get` or `set`.
     TypedAccessor {
         modifiers: Siblings<'a>,
         word: u32,
@@ -193,7 +193,7 @@ fn field<'a>(is_accessor: bool, parts: &Siblings<'a>) -> Member<'a>
     }
 }
 
-/// A method with types: its key, its mark and its signature stand in a group.
+/// A method with types: its key, its mark and its signature are in a group.
 #[tactic(auto, unfolding(es_lowering::specs::TypedFunctions::typed_method_member, crate::specs::class::Member::typed_method))]
 fn typed_method<'a>(is_generator: bool, parts: &Siblings<'a>) -> Member<'a>
     ensures form { (x : List ℕ) (ts : List Tok) (r : Range) → typed_method_member ts vMethod.Method false is_generator r (held x ts parts.now.entries.now) 1 ≡ the_member x ts r result }
@@ -217,7 +217,7 @@ fn typed_method<'a>(is_generator: bool, parts: &Siblings<'a>) -> Member<'a>
     }
 }
 
-/// The same behind `async`.
+/// The same after `async`.
 #[tactic(auto, unfolding(es_lowering::specs::TypedFunctions::typed_method_member, crate::specs::class::Member::typed_method))]
 fn typed_async_method<'a>(parts: &Siblings<'a>) -> Member<'a>
     ensures form { (x : List ℕ) (ts : List Tok) (r : Range) → typed_method_member ts vMethod.Method true (is_there (group (held x ts parts.now.entries.now) 1)) r (held x ts parts.now.entries.now) 2 ≡ the_member x ts r result }
@@ -241,7 +241,7 @@ fn typed_async_method<'a>(parts: &Siblings<'a>) -> Member<'a>
     }
 }
 
-/// The same behind `get` or `set`.
+/// The same after `get` or `set`.
 #[tactic(auto, unfolding(es_lowering::specs::TypedFunctions::typed_accessor_member, es_lowering::specs::TypedFunctions::typed_method_member, crate::specs::class::Member::typed_accessor, crate::specs::class::Member::typed_method))]
 fn typed_accessor<'a>(parts: &Siblings<'a>) -> Member<'a>
     ensures form { (x : List ℕ) (ts : List Tok) (r : Range) → typed_accessor_member ts r (held x ts parts.now.entries.now) ≡ the_member x ts r result }

@@ -15,10 +15,10 @@ ghost use Rattle.es_view_statements.specs.decl.Decl.{declarations, the_decl, IsB
 use es_grammar::NodeKind;
 use es_syntax::{Item, Siblings, What};
 
-/// A declaration, with its parts where they stand. Numbers are those of tokens.
+/// A declaration, with its parts in place. Numbers are those of tokens.
 #[derive(Clone, Copy)]
 pub enum Decl<'a> {
-    /// `function a(b) {}`, behind `async` or not: its parts.
+    /// `function a(b) {}`, with or without `async`: its parts.
     Function {
         is_async: bool,
         parts: Siblings<'a>,
@@ -33,7 +33,7 @@ pub enum Decl<'a> {
         first: Item<'a>,
         others: Siblings<'a>,
     },
-    /// `using a = b`, behind `await` or not.
+    /// `using a = b`, with or without `await`.
     Using {
         is_await: bool,
         first: Item<'a>,
@@ -43,7 +43,7 @@ pub enum Decl<'a> {
     Declared(Item<'a>),
     /// `declare` before variables.
     DeclaredVariables(Item<'a>),
-    /// One that may stand behind `declare`: the node itself.
+    /// One that may follow `declare`: the node itself.
     Declarable(Item<'a>),
     /// A part is not there.
     Broken,
@@ -80,7 +80,7 @@ fn variables<'a>(parts: &Siblings<'a>) -> Decl<'a>
     }
 }
 
-/// `using a = b`, behind `await` or not.
+/// `using a = b`, with or without `await`.
 #[tactic(auto, unfolding(es_lowering::specs::Statements::using_, crate::specs::decl::Decl::using_of))]
 fn using_<'a>(parts: &Siblings<'a>) -> Decl<'a>
     ensures form { (x : List ℕ) (ts : List Tok) (r : Range) → option_map (decl_of r) (using_ (held x ts parts.now.entries.now)) ≡ the_decl x ts r result }

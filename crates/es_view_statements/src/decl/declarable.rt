@@ -1,4 +1,4 @@
-//! Declarations that may stand behind `declare`.
+//! Declarations that may follow `declare`.
 
 ghost use Rattle.std.specs.Prelude.{◌≡◌, ℕ, List, IfSome, IfNone};
 ghost use Rattle.base.specs.declared.range.Range.{Range};
@@ -13,15 +13,15 @@ ghost use Rattle.es_view_statements.specs.decl.Declarable.{declarables, the_decl
 use es_grammar::NodeKind;
 use es_syntax::{Item, Siblings, What};
 
-/// A declaration that may stand behind `declare`, with its parts where they stand. Numbers are those of tokens.
+/// A declaration that may follow `declare`, with its parts in place. Numbers are those of tokens.
 #[derive(Clone, Copy)]
 pub enum Declarable<'a> {
-    /// A function of TypeScript, behind `async` or not: its parts.
+    /// A function of TypeScript, with or without `async`: its parts.
     Function {
         is_async: bool,
         parts: Siblings<'a>,
     },
-    /// A class of TypeScript, behind `abstract` or not: its parts.
+    /// A class of TypeScript, with or without `abstract`: its parts.
     Class {
         is_abstract: bool,
         parts: Siblings<'a>,
@@ -39,7 +39,7 @@ pub enum Declarable<'a> {
         type_params: Siblings<'a>,
         ty: Item<'a>,
     },
-    /// `enum a {}`, behind `const` or not: its members as turns.
+    /// `enum a {}`, with or without `const`: its members as turns.
     Enum {
         is_const: bool,
         name: u32,
@@ -98,7 +98,7 @@ fn alias<'a>(parts: &Siblings<'a>) -> Declarable<'a>
     }
 }
 
-/// `enum a {}`, behind `const` or not: its members as turns.
+/// `enum a {}`, with or without `const`: its members as turns.
 #[tactic(auto, unfolding(es_lowering::specs::TypedStatements::enum_, crate::specs::decl::Declarable::enum_of))]
 fn enum_<'a>(parts: &Siblings<'a>) -> Declarable<'a>
     ensures form { (x : List ℕ) (ts : List Tok) (r : Range) → enum_ x ts (held x ts parts.now.entries.now) ≡ the_declarable x ts r result }
@@ -157,7 +157,7 @@ fn global<'a>(parts: &Siblings<'a>) -> Declarable<'a>
     Declarable::Global(parts.group_at(0))
 }
 
-/// What a node is as a declaration that may stand behind `declare`; none where it is of another alternative.
+/// What a node is as a declaration that may follow `declare`; none where it is of another alternative.
 #[tactic(auto, unfolding(es_lowering::specs::Lowering::build, es_lowering::specs::Lowering::declarable_of))]
 pub fn declarable_at<'a>(node: &Item<'a>) -> Option<Declarable<'a>>
     ensures form { (x : List ℕ) (ts : List Tok) → IfSome result (λ view. declarable_in (valued x ts node.now) ≡ the_declarable x ts (span_of ts node.now.from node.now.to) view) }

@@ -14,7 +14,7 @@ ghost use Rattle.es_view_statements.specs.decl.Declarator.{declarators, the_decl
 use es_grammar::NodeKind;
 use es_syntax::{Item, Siblings, What};
 
-/// A declarator, with its parts where they stand.
+/// A declarator, with its parts in place.
 #[derive(Clone, Copy)]
 pub enum Declarator<'a> {
     /// `a = b`
@@ -22,7 +22,7 @@ pub enum Declarator<'a> {
         name: Item<'a>,
         value: Item<'a>,
     },
-    /// `a!: T = b`: whether `!` stands there; the type and the value may be absent.
+    /// `a!: T = b`: whether `!` is there; the type and the value may be absent.
     Typed {
         name: Item<'a>,
         definite: bool,
@@ -50,7 +50,7 @@ fn assigned<'a>(parts: &Siblings<'a>) -> Declarator<'a>
     }
 }
 
-/// `a!: T = b`: whether `!` stands there; the type and the value may be absent.
+/// `a!: T = b`: whether `!` is there; the type and the value may be absent.
 #[tactic(auto, unfolding(es_lowering::specs::TypedStatements::typed_declarator, crate::specs::decl::Declarator::typed))]
 fn typed_declarator<'a>(parts: &Siblings<'a>) -> Declarator<'a>
     ensures form { (x : List ℕ) (ts : List Tok) (r : Range) → typed_declarator ts r (held x ts parts.now.entries.now) ≡ the_declarator x ts r result }

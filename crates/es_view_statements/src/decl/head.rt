@@ -14,7 +14,7 @@ ghost use Rattle.es_view_statements.specs.decl.Head.{heads, the_head, IsBelow};
 use es_grammar::NodeKind;
 use es_syntax::{Item, Siblings, What};
 
-/// What stands in a `for` before `in` or `of`. Numbers are those of tokens.
+/// What precedes `in` or `of` in a `for`. Numbers are those of tokens.
 #[derive(Clone, Copy)]
 pub enum Head<'a> {
     /// `var a`
@@ -22,7 +22,7 @@ pub enum Head<'a> {
         word: u32,
         name: Item<'a>,
     },
-    /// `using a`, behind `await` or not.
+    /// `using a`, with or without `await`.
     Using {
         is_await: bool,
         name: u32,
@@ -56,7 +56,7 @@ fn variable_head<'a>(parts: &Siblings<'a>) -> Head<'a>
     }
 }
 
-/// `using a`, behind `await` or not.
+/// `using a`, with or without `await`.
 #[tactic(auto, unfolding(es_lowering::specs::Statements::using_head, crate::specs::decl::Head::using_of))]
 fn using_head<'a>(parts: &Siblings<'a>) -> Head<'a>
     ensures form { (x : List ℕ) (ts : List Tok) → using_head x ts (held x ts parts.now.entries.now) ≡ the_head x ts result }
@@ -102,7 +102,7 @@ fn target<'a>(parts: &Siblings<'a>) -> Head<'a>
     }
 }
 
-/// What a node is as the head of a `for` before `in` or `of`; a target that is no pattern stands in another role; none where it is of another alternative.
+/// What a node is as the head of a `for` before `in` or `of`; a target that is no pattern has another role; none where it is of another alternative.
 #[tactic(auto, unfolding(es_lowering::specs::Lowering::build, es_lowering::specs::Lowering::head_of, es_lowering::specs::Lowering::pat_of))]
 pub fn head_at<'a>(node: &Item<'a>) -> Option<Head<'a>>
     ensures form { (x : List ℕ) (ts : List Tok) → IfSome result (λ view. head_in (valued x ts node.now) ≡ the_head x ts view) }

@@ -20,7 +20,7 @@ pub enum Variables<'a> {
         first: Item<'a>,
         others: Siblings<'a>,
     },
-    /// `using a = b`, behind `await` or not.
+    /// `using a = b`, with or without `await`.
     Using {
         is_await: bool,
         first: Item<'a>,
@@ -49,7 +49,7 @@ fn var<'a>(parts: &Siblings<'a>) -> Variables<'a>
     }
 }
 
-/// `using a = b`, behind `await` or not.
+/// `using a = b`, with or without `await`.
 #[tactic(auto, unfolding(es_lowering::specs::Statements::using_, crate::specs::decl::Variables::using_of))]
 fn using_<'a>(parts: &Siblings<'a>) -> Variables<'a>
     ensures form { (x : List ℕ) (ts : List Tok) → using_ (held x ts parts.now.entries.now) ≡ the_variables x ts result }

@@ -14,7 +14,7 @@ ghost use Rattle.es_view_statements.specs.param.Param.{parameters, the_param, Is
 use es_grammar::NodeKind;
 use es_syntax::{Item, Siblings, What};
 
-/// A parameter, with its parts where they stand.
+/// A parameter, with its parts in place.
 #[derive(Clone, Copy)]
 pub enum Param<'a> {
     /// `a = b`

@@ -12,10 +12,10 @@ ghost use Rattle.es_view_statements.specs.param.Params.{parameter_lists, the_par
 use es_grammar::NodeKind;
 use es_syntax::{Item, Siblings, What};
 
-/// Parameters, with their parts where they stand.
+/// Parameters, with their parts in place.
 #[derive(Clone, Copy)]
 pub enum Params<'a> {
-    /// `a, b, ...c`: turns of one each, and what is behind the sign or none.
+    /// `a, b, ...c`: turns of one each, and what follows `...` or none.
     Plain {
         all: Siblings<'a>,
         rest: Siblings<'a>,
@@ -31,7 +31,7 @@ pub enum Params<'a> {
     Broken,
 }
 
-/// `a, b, ...c`: turns of one each, and what is behind the sign or none.
+/// `a, b, ...c`: turns of one each, and what follows `...` or none.
 #[tactic(auto, unfolding(es_lowering::specs::Functions::parameters, crate::specs::param::Params::plain))]
 fn plain<'a>(parts: &Siblings<'a>) -> Params<'a>
     ensures form { (x : List ℕ) (ts : List Tok) → parameters ts (held x ts parts.now.entries.now) ≡ the_params x ts result }

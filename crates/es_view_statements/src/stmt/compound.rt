@@ -14,7 +14,7 @@ ghost use Rattle.es_view_statements.specs.stmt.Compound.{compounds, the_compound
 use es_grammar::NodeKind;
 use es_syntax::{Item, Siblings, What};
 
-/// A loop, a `switch` or a `try`, with its parts where they stand. Numbers are those of tokens.
+/// A loop, a `switch` or a `try`, with its parts in place. Numbers are those of tokens.
 #[derive(Clone, Copy)]
 pub enum Compound<'a> {
     /// `for (a; b; c) d`: the first part is one of three, and each may be absent.
@@ -54,7 +54,7 @@ pub enum Compound<'a> {
         discriminant: Item<'a>,
         cases: Siblings<'a>,
     },
-    /// `try a catch (b) c finally d`: what is behind its block.
+    /// `try a catch (b) c finally d`: what follows its block.
     Try {
         block: Item<'a>,
         handlers: Siblings<'a>,
@@ -176,7 +176,7 @@ fn switch<'a>(parts: &Siblings<'a>) -> Compound<'a>
     }
 }
 
-/// `try a catch (b) c finally d`: what is behind its block.
+/// `try a catch (b) c finally d`: what follows its block.
 #[tactic(auto, unfolding(es_lowering::specs::Statements::try_, crate::specs::stmt::Compound::try_of))]
 fn try_<'a>(parts: &Siblings<'a>) -> Compound<'a>
     ensures form { (x : List ℕ) (ts : List Tok) (r : Range) → try_ r (held x ts parts.now.entries.now) ≡ the_compound x ts r result }

@@ -1,4 +1,4 @@
-//! Statements that stand by themselves.
+//! Statements other than loops, `switch`, `try` and declarations.
 
 ghost use Rattle.std.specs.Prelude.{◌≡◌, ℕ, List, IfSome, IfNone, option_map};
 ghost use Rattle.base.specs.declared.range.Range.{Range};
@@ -14,7 +14,7 @@ ghost use Rattle.es_view_statements.specs.stmt.Stmt.{statements, the_stmt, IsBel
 use es_grammar::NodeKind;
 use es_syntax::{Item, Siblings, What};
 
-/// A statement, with its parts where they stand. Numbers are those of tokens.
+/// A statement, with its parts in place. Numbers are those of tokens.
 #[derive(Clone, Copy)]
 pub enum Stmt<'a> {
     /// `{ a }`: its statements as turns.

@@ -14,7 +14,7 @@ ghost use Rattle.es_view_types.specs.members.Member.{members, the_member, IsBelo
 use es_grammar::NodeKind;
 use es_syntax::{Item, Siblings, What};
 
-/// A member of a type in braces, with its parts where they stand. Numbers are those of tokens.
+/// A member of a type in braces, with its parts as cursors. Numbers are those of tokens.
 #[derive(Clone, Copy)]
 pub enum TypeMember<'a> {
     /// `<T>(a): b`: the type parameters and the result may be absent.
@@ -29,14 +29,14 @@ pub enum TypeMember<'a> {
         params: Item<'a>,
         ty: Siblings<'a>,
     },
-    /// `[a: b]: c`, behind `readonly` or not.
+    /// `[a: b]: c`, with optional `readonly`.
     Index {
         readonly: bool,
         name: u32,
         of: Item<'a>,
         ty: Siblings<'a>,
     },
-    /// `get a(): b`: the word, the key, whether a mark stands behind it.
+    /// `get a(): b`: the word, the key, whether a mark follows it.
     Accessor {
         word: u32,
         key: Item<'a>,
@@ -45,7 +45,7 @@ pub enum TypeMember<'a> {
         params: Item<'a>,
         ty: Siblings<'a>,
     },
-    /// `a?(b): c`: whether a mark stands behind the key.
+    /// `a?(b): c`: whether a mark follows the key.
     Method {
         key: Item<'a>,
         mark: bool,
@@ -53,7 +53,7 @@ pub enum TypeMember<'a> {
         params: Item<'a>,
         ty: Siblings<'a>,
     },
-    /// `a?: b`, behind `readonly` or not: whether a mark stands behind the key.
+    /// `a?: b`, with optional `readonly`: whether a mark follows the key.
     Property {
         readonly: bool,
         key: Item<'a>,
@@ -96,7 +96,7 @@ fn construct<'a>(parts: &Siblings<'a>) -> TypeMember<'a>
     }
 }
 
-/// `[a: b]: c`, behind `readonly` or not.
+/// `[a: b]: c`, with optional `readonly`.
 #[tactic(auto, unfolding(es_lowering::specs::TypeMembers::index_signature, crate::specs::members::Member::index))]
 fn index<'a>(parts: &Siblings<'a>) -> TypeMember<'a>
     ensures form { (x : List ℕ) (ts : List Tok) (r : Range) → index_signature x ts r (held x ts parts.now.entries.now) ≡ the_member x ts r result }
@@ -116,7 +116,7 @@ fn index<'a>(parts: &Siblings<'a>) -> TypeMember<'a>
     }
 }
 
-/// `get a(): b`: the word, the key, whether a mark stands behind it.
+/// `get a(): b`: the word, the key, whether a mark follows it.
 #[tactic(auto, unfolding(es_lowering::specs::TypeMembers::accessor_signature, es_lowering::specs::TypeMembers::method_by, crate::specs::members::Member::accessor))]
 fn accessor<'a>(parts: &Siblings<'a>) -> TypeMember<'a>
     ensures form { (x : List ℕ) (ts : List Tok) (r : Range) → accessor_signature ts r (held x ts parts.now.entries.now) ≡ the_member x ts r result }
@@ -141,7 +141,7 @@ fn accessor<'a>(parts: &Siblings<'a>) -> TypeMember<'a>
     }
 }
 
-/// `a?(b): c`: whether a mark stands behind the key.
+/// `a?(b): c`: whether a mark follows the key.
 #[tactic(auto, unfolding(es_lowering::specs::TypeMembers::method_by, crate::specs::members::Member::method))]
 fn method<'a>(parts: &Siblings<'a>) -> TypeMember<'a>
     ensures form { (x : List ℕ) (ts : List Tok) (r : Range) → method_by vMethod.Method r (held x ts parts.now.entries.now) 0 ≡ the_member x ts r result }
@@ -162,7 +162,7 @@ fn method<'a>(parts: &Siblings<'a>) -> TypeMember<'a>
     }
 }
 
-/// `a?: b`, behind `readonly` or not: whether a mark stands behind the key.
+/// `a?: b`, with optional `readonly`: whether a mark follows the key.
 #[tactic(auto, unfolding(es_lowering::specs::TypeMembers::property_by, crate::specs::members::Member::property))]
 fn property<'a>(readonly: bool, parts: &Siblings<'a>) -> TypeMember<'a>
     ensures form { (x : List ℕ) (ts : List Tok) (r : Range) → property_by readonly r (held x ts parts.now.entries.now) ≡ the_member x ts r result }

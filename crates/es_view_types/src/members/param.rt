@@ -13,16 +13,16 @@ ghost use Rattle.es_view_types.specs.members.Param.{parameters, the_param, IsBel
 use es_grammar::NodeKind;
 use es_syntax::{Item, Siblings, What};
 
-/// A parameter, with its parts where they stand. Numbers are those of tokens.
+/// A parameter, with its parts as cursors. Numbers are those of tokens.
 #[derive(Clone, Copy)]
 pub enum TypeFnParam<'a> {
-    /// `this?: T`: whether a mark stands there; the type may be absent.
+    /// `this?: T`: whether a mark is there; the type may be absent.
     This {
         word: u32,
         mark: bool,
         ty: Siblings<'a>,
     },
-    /// `a?: T`, `a: T`, `a?`: a pattern, and what is behind it.
+    /// `a?: T`, `a: T`, `a?`: a pattern, and what follows it.
     Marked {
         pat: Item<'a>,
         mark: Siblings<'a>,
@@ -33,7 +33,7 @@ pub enum TypeFnParam<'a> {
     Broken,
 }
 
-/// `this?: T`: whether a mark stands there; the type may be absent.
+/// `this?: T`: whether a mark is there; the type may be absent.
 #[tactic(auto, unfolding(es_lowering::specs::TypePatterns::this_parameter, crate::specs::members::Param::this))]
 fn this<'a>(parts: &Siblings<'a>) -> TypeFnParam<'a>
     ensures form { (x : List ℕ) (ts : List Tok) (r : Range) → this_parameter ts r (held x ts parts.now.entries.now) ≡ the_param x ts r result }
@@ -49,7 +49,7 @@ fn this<'a>(parts: &Siblings<'a>) -> TypeFnParam<'a>
     }
 }
 
-/// `a?: T`, `a: T`, `a?`: a pattern, and what is behind it.
+/// `a?: T`, `a: T`, `a?`: a pattern, and what follows it.
 #[tactic(auto, unfolding(es_lowering::specs::TypePatterns::marked_parameter, crate::specs::members::Param::marked))]
 fn marked<'a>(parts: &Siblings<'a>) -> TypeFnParam<'a>
     ensures form { (x : List ℕ) (ts : List Tok) (r : Range) → marked_parameter r (held x ts parts.now.entries.now) ≡ the_param x ts r result }

@@ -11,10 +11,10 @@ ghost use Rattle.es_view_types.specs.members.Params.{parameter_lists, the_params
 use es_grammar::NodeKind;
 use es_syntax::{Item, Siblings, What};
 
-/// Parameters, where they stand.
+/// Parameters, as cursors.
 #[derive(Clone, Copy)]
 pub enum TypeFnParams<'a> {
-    /// `a, b, ...c`: turns of one each, and what is behind the sign or none.
+    /// `a, b, ...c`: turns of one each, and what follows `...` or none.
     Params {
         all: Siblings<'a>,
         rest: Siblings<'a>,
@@ -23,7 +23,7 @@ pub enum TypeFnParams<'a> {
     Broken,
 }
 
-/// `a, b, ...c`: turns of one each, and what is behind the sign or none.
+/// `a, b, ...c`: turns of one each, and what follows `...` or none.
 #[tactic(auto, unfolding(es_lowering::specs::TypePatterns::parameters, crate::specs::members::Params::parameters))]
 fn parameters<'a>(parts: &Siblings<'a>) -> TypeFnParams<'a>
     ensures form { (x : List ℕ) (ts : List Tok) → parameters ts (held x ts parts.now.entries.now) ≡ the_params x ts result }

@@ -13,7 +13,7 @@ ghost use Rattle.es_view_types.specs.members.Pat.{patterns, the_pat, IsBelow};
 use es_grammar::NodeKind;
 use es_syntax::{Item, Siblings, What};
 
-/// A pattern, with its parts where they stand. Numbers are those of tokens.
+/// A pattern, with its parts as cursors. Numbers are those of tokens.
 #[derive(Clone, Copy)]
 pub enum TypePat<'a> {
     /// `a`

@@ -13,7 +13,7 @@ ghost use Rattle.es_view_types.specs.members.Prop.{props, the_prop, IsBelow};
 use es_grammar::NodeKind;
 use es_syntax::{Item, Siblings, What};
 
-/// A property, with its parts where they stand. Numbers are those of tokens.
+/// A property, with its parts as cursors. Numbers are those of tokens.
 #[derive(Clone, Copy)]
 pub enum TypeProp<'a> {
     /// `...a`

@@ -13,7 +13,7 @@ ghost use Rattle.es_view_types.specs.names.Arguments.{argument_labels, the_argum
 use es_grammar::NodeKind;
 use es_syntax::{Item, Siblings, What};
 
-/// Type arguments, where they stand.
+/// Type arguments, as cursors.
 #[derive(Clone, Copy)]
 pub enum TypeArguments<'a> {
     /// `<a, b>`: the first, and turns of the others.

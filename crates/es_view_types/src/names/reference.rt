@@ -13,7 +13,7 @@ ghost use Rattle.es_view_types.specs.names.Reference.{references, the_reference,
 use es_grammar::NodeKind;
 use es_syntax::{Item, Siblings, What};
 
-/// A name of a type, with its parts where they stand.
+/// A name of a type, with its parts as cursors.
 #[derive(Clone, Copy)]
 pub enum Reference<'a> {
     /// `a<b>`

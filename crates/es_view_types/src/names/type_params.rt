@@ -13,10 +13,10 @@ ghost use Rattle.es_view_types.specs.names.TypeParams.{type_param_labels, the_ty
 use es_grammar::NodeKind;
 use es_syntax::{Item, Siblings, What};
 
-/// Type parameters, where they stand.
+/// Type parameters, as cursors.
 #[derive(Clone, Copy)]
 pub enum TypeParams<'a> {
-    /// `<a, b>`: the parts of the first one stand among those of the node; the others are turns.
+    /// `<a, b>`: the parts of the first one are among those of the node; the others are turns.
     Params {
         first: Siblings<'a>,
         others: Siblings<'a>,
@@ -25,7 +25,7 @@ pub enum TypeParams<'a> {
     Broken,
 }
 
-/// `<a, b>`: the parts of the first one stand among those of the node; the others are turns.
+/// `<a, b>`: the parts of the first one are among those of the node; the others are turns.
 #[tactic(auto, unfolding(es_lowering::specs::TypeNames::type_params, crate::specs::names::TypeParams::type_params))]
 fn type_params<'a>(parts: &Siblings<'a>) -> TypeParams<'a>
     ensures form { (x : List ℕ) (ts : List Tok) (r : Range) → type_params x ts r (held x ts parts.now.entries.now) ≡ the_type_params x ts r result }

@@ -13,7 +13,7 @@ ghost use Rattle.es_view_types.specs.types.Compound.{compound_types, the_compoun
 use es_grammar::NodeKind;
 use es_syntax::{Item, Siblings, What};
 
-/// A type, with its parts where they stand. Numbers are those of tokens.
+/// A type, with its parts as cursors. Numbers are those of tokens.
 #[derive(Clone, Copy)]
 pub enum CompoundType<'a> {
     /// `a | b | c`: the first two, and turns of the others.
@@ -45,7 +45,7 @@ pub enum CompoundType<'a> {
     },
     /// `infer a`
     Infer(u32),
-    /// `a[][b]`: a type, what stands in the first brackets or none, and turns of the others.
+    /// `a[][b]`: a type, what is in the first brackets or none, and turns of the others.
     Array {
         ty: Item<'a>,
         first: Siblings<'a>,
@@ -172,7 +172,7 @@ fn infer<'a>(parts: &Siblings<'a>) -> CompoundType<'a>
     }
 }
 
-/// `a[][b]`: a type, what stands in the first brackets or none, and turns of the others.
+/// `a[][b]`: a type, what is in the first brackets or none, and turns of the others.
 #[tactic(auto, unfolding(es_lowering::specs::Types::array_types, crate::specs::types::Compound::array))]
 fn array<'a>(parts: &Siblings<'a>) -> CompoundType<'a>
     ensures form { (x : List ℕ) (ts : List Tok) (r : Range) → array_types ts r (held x ts parts.now.entries.now) ≡ the_compound x ts r result }

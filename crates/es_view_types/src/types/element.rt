@@ -13,7 +13,7 @@ ghost use Rattle.es_view_types.specs.types.Element.{elements, the_element, IsBel
 use es_grammar::NodeKind;
 use es_syntax::{Item, Siblings, What};
 
-/// An element of a tuple, with its parts where they stand. Numbers are those of tokens.
+/// An element of a tuple, with its parts as cursors. Numbers are those of tokens.
 #[derive(Clone, Copy)]
 pub enum Element<'a> {
     /// `...a: b`: the label may be absent.
@@ -22,7 +22,7 @@ pub enum Element<'a> {
         ty: Item<'a>,
         mark: bool,
     },
-    /// `a?: b`: whether a mark stands behind the label, and behind the type.
+    /// `a?: b`: whether a mark is after the label, and after the type.
     Labelled {
         label: u32,
         label_mark: bool,
@@ -53,7 +53,7 @@ fn rest<'a>(parts: &Siblings<'a>) -> Element<'a>
     }
 }
 
-/// `a?: b`: whether a mark stands behind the label, and behind the type.
+/// `a?: b`: whether a mark is after the label, and after the type.
 #[tactic(auto, unfolding(es_lowering::specs::Types::labelled_element, crate::specs::types::Element::labelled))]
 fn labelled<'a>(parts: &Siblings<'a>) -> Element<'a>
     ensures form { (x : List ℕ) (ts : List Tok) (r : Range) → labelled_element x ts r (held x ts parts.now.entries.now) ≡ the_element x ts r result }

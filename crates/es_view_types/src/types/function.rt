@@ -1,4 +1,4 @@
-//! Types of functions, and results that tell of a type.
+//! Types of functions, and type predicates as results.
 
 ghost use Rattle.std.specs.Prelude.{◌≡◌, ℕ, List, IfSome, IfNone};
 ghost use Rattle.base.specs.declared.range.Range.{Range};
@@ -13,7 +13,7 @@ ghost use Rattle.es_view_types.specs.types.Function.{function_types, the_functio
 use es_grammar::NodeKind;
 use es_syntax::{Item, Siblings, What};
 
-/// A type, with its parts where they stand. Numbers are those of tokens.
+/// A type, with its parts as cursors. Numbers are those of tokens.
 #[derive(Clone, Copy)]
 pub enum FunctionType<'a> {
     /// `<T>(a) => b`: the type parameters may be absent.
@@ -22,7 +22,7 @@ pub enum FunctionType<'a> {
         params: Item<'a>,
         ty: Item<'a>,
     },
-    /// `new <T>(a) => b`, behind `abstract` or not.
+    /// `new <T>(a) => b`, with optional `abstract`.
     Constructor {
         is_abstract: bool,
         type_params: Siblings<'a>,
@@ -62,7 +62,7 @@ fn function<'a>(parts: &Siblings<'a>) -> FunctionType<'a>
     }
 }
 
-/// `new <T>(a) => b`, behind `abstract` or not.
+/// `new <T>(a) => b`, with optional `abstract`.
 #[tactic(auto, unfolding(es_lowering::specs::Types::constructor_type, crate::specs::types::Function::constructor))]
 fn constructor<'a>(parts: &Siblings<'a>) -> FunctionType<'a>
     ensures form { (x : List ℕ) (ts : List Tok) (r : Range) → constructor_type r (held x ts parts.now.entries.now) ≡ the_function x ts r result }
@@ -112,7 +112,7 @@ fn predicate<'a>(parts: &Siblings<'a>) -> FunctionType<'a>
     }
 }
 
-/// What a node is as a type of a function, or as the result of one that tells of a type; none where it is of another alternative.
+/// What a node is as a type of a function, or as a type predicate; none where it is of another alternative.
 #[tactic(auto, unfolding(es_lowering::specs::Lowering::build, es_lowering::specs::Lowering::type_of))]
 pub fn function_at<'a>(node: &Item<'a>) -> Option<FunctionType<'a>>
     ensures form { (x : List ℕ) (ts : List Tok) → IfSome result (λ view. ts_type_in (valued x ts node.now) ≡ the_function x ts (span_of ts node.now.from node.now.to) view) }

@@ -14,7 +14,7 @@ ghost use Rattle.es_view_types.specs.types.Simple.{simple_types, the_simple, IsB
 use es_grammar::NodeKind;
 use es_syntax::{Item, Siblings, What};
 
-/// A type, with its parts where they stand. Numbers are those of tokens.
+/// A type, with its parts as cursors. Numbers are those of tokens.
 #[derive(Clone, Copy)]
 pub enum SimpleType<'a> {
     /// `any`
@@ -25,21 +25,21 @@ pub enum SimpleType<'a> {
     Word(u32),
     /// A string literal.
     Str(u32),
-    /// A number or a BigInt, behind `-` or not.
+    /// A number or a BigInt, with optional `-`.
     Number {
         minus: bool,
         token: u32,
     },
     /// A template without holes.
     Template(u32),
-    /// A template with holes: its first piece, what stands in the first hole, turns of a piece and what stands behind it, its last piece.
+    /// A template with holes: its first piece, what is in the first hole, turns of a piece and what follows it, its last piece.
     TemplateParts {
         head: u32,
         first: Item<'a>,
         others: Siblings<'a>,
         tail: u32,
     },
-    /// `typeof a`: what is named stands in a group.
+    /// `typeof a`: what is named is in a group.
     Query(Item<'a>),
     /// `a<b>`
     Reference {
@@ -94,7 +94,7 @@ fn str<'a>(parts: &Siblings<'a>) -> SimpleType<'a>
     }
 }
 
-/// A number or a BigInt, behind `-` or not.
+/// A number or a BigInt, with optional `-`.
 #[tactic(auto, unfolding(es_lowering::specs::Types::number_type, crate::specs::types::Simple::number))]
 fn number<'a>(parts: &Siblings<'a>) -> SimpleType<'a>
     ensures form { (x : List ℕ) (ts : List Tok) (r : Range) → number_type x ts r (held x ts parts.now.entries.now) ≡ the_simple x ts r result }
@@ -121,7 +121,7 @@ fn template<'a>(parts: &Siblings<'a>) -> SimpleType<'a>
     }
 }
 
-/// A template with holes: its first piece, what stands in the first hole, turns of a piece and what stands behind it, its last piece.
+/// A template with holes: its first piece, what is in the first hole, turns of a piece and what follows it, its last piece.
 #[tactic(auto, unfolding(es_lowering::specs::Types::template_types, crate::specs::types::Simple::template_parts))]
 fn template_parts<'a>(parts: &Siblings<'a>) -> SimpleType<'a>
     ensures form { (x : List ℕ) (ts : List Tok) (r : Range) → template_types x ts r (held x ts parts.now.entries.now) ≡ the_simple x ts r result }
@@ -144,7 +144,7 @@ fn template_parts<'a>(parts: &Siblings<'a>) -> SimpleType<'a>
     }
 }
 
-/// `typeof a`: what is named stands in a group.
+/// `typeof a`: what is named is in a group.
 #[tactic(auto, unfolding(es_lowering::specs::Types::type_query, crate::specs::types::Simple::query))]
 fn query<'a>(parts: &Siblings<'a>) -> SimpleType<'a>
     ensures form { (x : List ℕ) (ts : List Tok) (r : Range) → type_query r (held x ts parts.now.entries.now) ≡ the_simple x ts r result }

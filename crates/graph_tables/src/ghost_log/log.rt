@@ -4,7 +4,7 @@ ghost use Rattle.std.specs.Borrow.{ftrue};
 
 use std::marker::{Model, PhantomData};
 
-/// Pairs in the order in which they were noted. It takes no memory, and its methods do nothing at run time:
+/// Pairs in the order in which they were noted. It is zero-sized, and its methods do nothing at run time:
 /// clauses read the pairs as `items`.
 #[derive(Drop)]
 pub struct GhostLog<A, B> {

@@ -130,7 +130,7 @@ fn with_one_more(firsts: &IndexMap<Url, First>, url: &Url, number: usize) -> Fir
     }
 }
 
-// The number of the open request for the URL behind the first one.
+// The number of the open request for the URL after the first one.
 fn later_one(all: &[Url], marks: &[bool], first: First, url: &Url) -> Option<usize>
     requires even { length marks.now ≡ length all.now }
     requires within { first.at < length marks.now }

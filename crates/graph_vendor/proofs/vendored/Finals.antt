@@ -22,7 +22,7 @@ use Rattle.graph_entry.specs.Entry.{edge_target}
 use Rattle.graph_entry.specs.Resolution.{Resolved}
 use Rattle.graph_builder.specs.Rules.{targets, led_to, edges_of, is_followed}
 use Rattle.graph_builder.specs.Reach.{Specifier, has, IsEntry}
-use Rattle.graph_builder.specs.Final.{Redirects, is_redirect, LeadsTo, fits, fits_phase, LeadsAmiss, IsFinalEdge, misfit, phase_misfit, fit, AreFinalEdges, with_edges, IsFinal, redirect, too_far, with_module, same}
+use Rattle.graph_builder.specs.Final.{Redirects, is_redirect, LeadsTo, fits_by, fits_phase, LeadsAmiss, IsFinalEdge, misfit, phase_misfit, fit, AreFinalEdges, with_edges, IsFinal, redirect, too_far, with_module, same}
 use Rattle.graph_builder.specs.Graph.{entry_of}
 use Rattle.graph_vendor.specs.Names.{Entries, Names, renamed}
 use Rattle.graph_vendor.specs.vendored.Vendored.{new_literals, EdgeMoves, EdgesMove, SourceMoves, EntryMoves}
@@ -38,10 +38,13 @@ use Rattle.graph_vendor.proofs.vendored.Reached.{led_renamed, step_reached, foll
 abbrev SuitsAlike : (Module → Bool) → Type 0
 SuitsAlike suits = (m n : JsModule) → suits (Js m) ≡ suits (Js n)
 
-fits_alike : (a : Attribute) → SuitsAlike (fits a)
-fits_alike Absent m n = refl
-fits_alike (Named text) m n = refl
-fits_alike Unknown m n = refl
+fits_alike : (b : Bool) (a : Attribute) → SuitsAlike (fits_by b a)
+fits_alike true Absent m n = refl
+fits_alike false Absent m n = refl
+fits_alike true (Named text) m n = refl
+fits_alike false (Named text) m n = refl
+fits_alike true Unknown m n = refl
+fits_alike false Unknown m n = refl
 
 same_module : (m n : Module) → entry.Module m ≡ entry.Module n → m ≡ n
 same_module m n e = cc
@@ -150,8 +153,10 @@ edge_stays : (v : Setting) (m n : JsModule) (d e made : Dependency) → n.media_
     → ((s : Specifier) → led_to (follows v.following m) d ≡ Some s → Reaches v s)
     → Fits (old_rules v) v.answers (Js m) d → IsFinalEdge (new_rules v) (new_answers v) (Js n) e made → made ≡ e
 edge_stays v m n d e made media moves reached ok (misfit amiss is) =
-    absurd (ok.attribute (amiss_back v m n d e (fits d.attribute) (fits_alike d.attribute) media moves reached
-    (subst (λ (a : Attribute). LeadsAmiss (new_rules v) (new_answers v) (Js n) e (fits a)) moves.attribute amiss)))
+    let lacks = v.following.json_without_attribute in
+    absurd (ok.attribute (amiss_back v m n d e (fits_by lacks d.attribute) (fits_alike lacks d.attribute) media moves
+    reached (subst (λ (a : Attribute). LeadsAmiss (new_rules v) (new_answers v) (Js n) e (fits_by lacks a))
+    moves.attribute amiss)))
 edge_stays v m n d e made media moves reached ok (phase_misfit none amiss is) =
     absurd (ok.phase (amiss_back v m n d e (fits_phase d.kind) (λ a b. refl) media moves reached
     (subst (λ (k : DependencyKind). LeadsAmiss (new_rules v) (new_answers v) (Js n) e (fits_phase k)) moves.kind

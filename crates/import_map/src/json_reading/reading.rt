@@ -49,7 +49,7 @@ pub fn under<T: Drop>(
     }
 }
 
-/// The pointer that goes on with the rest behind a part.
+/// The pointer of a part, followed by the rest.
 pub fn pointer(alloc: Global, part: &str, rest: &str) -> Result<Text, AllocError>
     ensures { IfOk result (λ p. p ≡ spec.pointer part.now rest.now) }
 {

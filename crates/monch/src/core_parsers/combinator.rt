@@ -20,7 +20,7 @@ pub trait Combinator<'a> {
     // Where each success is known to take something, as a repetition asks of its items.
     ghost advances: { Self → Type 0 };
 
-    // The rest of a success is a suffix of the text. This law and the next stand above `parse`, so that they are data, which
+    // The rest of a success is a suffix of the text. This law and the next come before `parse`, so that they are data, which
     // generic code can name.
     ghost leaves_suffix: { (s : Self) → can_parse s → LeavesSuffix (gives s) };
 

@@ -63,7 +63,7 @@ impl<'a> ParseErrorFailure<'a> {
         })
     }
 
-    /// The failure as an error, as `into_error` tells it.
+    /// The failure as the error that `into_error` gives.
     pub fn into_result<T>(self, alloc: Global) -> Result<T, HandledError>
         ensures { MatchResult result (λ _. ⊥) (IsHandledAs self.entry.input.now (cow_str_bytes self.entry.message)) }
     {

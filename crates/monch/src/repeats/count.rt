@@ -11,7 +11,7 @@ use crate::core_parsers::{Combinator, ParseResult};
 use crate::repeats::rounds::{Backtracking, Round, next_item, next_separated};
 use std::marker::PhantomData;
 
-/// How many items there are, until no item stands there.
+/// How many items there are, until no item follows.
 #[derive(Drop)]
 pub struct Many0Count<'a, A> {
     pub(crate) item: A,
@@ -45,7 +45,7 @@ where
     ghost leaves_less = { λ s can none. Prim.absurd none };
 }
 
-/// How many items there are, with a separator behind each.
+/// How many items there are, with a separator after each.
 #[derive(Drop)]
 pub struct SeparatedCount<'a, A, B> {
     pub(crate) item: A,

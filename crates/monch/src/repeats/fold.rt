@@ -9,7 +9,7 @@ ghost use Rattle.monch.specs.repeats.Separated.{MayAlternate, GivesSeparated};
 use crate::core_parsers::{Combinator, ParseResult};
 use crate::repeats::rounds::{Round, next_item, next_separated};
 
-/// What a function makes of the values of items, until the end is read or no item stands there.
+/// What a function makes of the values of items, until the end is read or no item follows.
 #[derive(Drop)]
 pub struct ManyTillFold<A, B, S, F> {
     pub(crate) item: A,
@@ -43,7 +43,7 @@ impl<A: Drop, B: Drop, S: Drop, F: Drop> ManyTillFold<A, B, S, F> {
     }
 }
 
-/// What a function makes of the values of items with a separator behind each.
+/// What a function makes of the values of items with a separator after each.
 #[derive(Drop)]
 pub struct SeparatedFold<A, B, S, F> {
     pub(crate) item: A,

@@ -8,7 +8,7 @@ use crate::repeats::repeat::{Many0, Many1, ManyTill, SeparatedList};
 use std::alloc::Global;
 use std::marker::PhantomData;
 
-/// The values of `item`, until `until` is read or no item stands there.
+/// The values of `item`, until `until` is read or no item follows.
 pub fn many_till<'a, A, B>(alloc: Global, item: A, until: B) -> ManyTill<'a, A, B>
     ensures item { result.item ≡ item }
     ensures until { result.until ≡ until }
@@ -21,7 +21,7 @@ pub fn many_till<'a, A, B>(alloc: Global, item: A, until: B) -> ManyTill<'a, A, 
     }
 }
 
-/// The values of `item`, until no item stands there.
+/// The values of `item`, until no item follows.
 pub fn many0<'a, A>(alloc: Global, item: A) -> Many0<'a, A>
     ensures { result.item ≡ item }
 {
@@ -43,7 +43,7 @@ pub fn many1<'a, A>(alloc: Global, item: A) -> Many1<'a, A>
     }
 }
 
-/// The values of `item`, with a `separator` read behind each.
+/// The values of `item`, with a `separator` read after each.
 pub fn separated_list<'a, A, B>(alloc: Global, item: A, separator: B) -> SeparatedList<'a, A, B>
     ensures item { result.item ≡ item }
     ensures separator { result.separator ≡ separator }
@@ -85,7 +85,7 @@ pub fn separated_fold<A, B, S, F>(
     }
 }
 
-/// How many values `many0` gives. It takes no memory of its own.
+/// How many values `many0` gives. It allocates nothing of its own.
 pub fn many0_count<'a, A>(item: A) -> Many0Count<'a, A>
     ensures { result.item ≡ item }
 {
@@ -95,7 +95,7 @@ pub fn many0_count<'a, A>(item: A) -> Many0Count<'a, A>
     }
 }
 
-/// How many values `separated_list` gives. It takes no memory of its own.
+/// How many values `separated_list` gives. It allocates nothing of its own.
 pub fn separated_count<'a, A, B>(item: A, separator: B) -> SeparatedCount<'a, A, B>
     ensures item { result.item ≡ item }
     ensures separator { result.separator ≡ separator }

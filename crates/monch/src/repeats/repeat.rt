@@ -13,7 +13,7 @@ use crate::repeats::rounds::{Backtracking, Round, next_item, next_separated};
 use std::alloc::Global;
 use std::marker::PhantomData;
 
-/// The values of items, until the end is read or no item stands there.
+/// The values of items, until the end is read or no item follows.
 #[derive(Drop)]
 pub struct ManyTill<'a, A, B> {
     pub(crate) alloc: Global,
@@ -44,7 +44,7 @@ where
     ghost leaves_less = { λ s can none. Prim.absurd none };
 }
 
-/// The values of items, until no item stands there.
+/// The values of items, until no item follows.
 #[derive(Drop)]
 pub struct Many0<'a, A> {
     pub(crate) alloc: Global,
@@ -73,7 +73,7 @@ where
     ghost leaves_less = { λ s can none. Prim.absurd none };
 }
 
-/// The values of items, until no item stands there, and a backtrack where there is none.
+/// The values of items, until no item follows, and a backtrack where there is none.
 #[derive(Drop)]
 pub struct Many1<'a, A> {
     pub(crate) alloc: Global,
@@ -106,7 +106,7 @@ where
     ghost leaves_less = { λ s can _ text rest value given. items_advance (A.gives s.item) Backtracks (advancing (A.gives s.item) (A.leaves_less s.item can.0) can.1) (A.leaves_suffix s.item can.0) given.1 given.0 };
 }
 
-/// The values of items with a separator behind each. A separator that is read stays read, also with no item behind it.
+/// The values of items with a separator after each. A separator that is read stays read, even with no item after it.
 #[derive(Drop)]
 pub struct SeparatedList<'a, A, B> {
     pub(crate) alloc: Global,

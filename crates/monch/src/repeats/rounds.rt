@@ -35,9 +35,9 @@ impl<'a> Combinator<'a> for Backtracking {
 /// What a round of a separated list finds.
 #[derive(Drop)]
 pub enum Round<'a, O> {
-    /// An item and a separator behind it, and what both leave.
+    /// An item and a separator after it, and what both leave.
     Next(&'a str, O),
-    /// An item with no separator behind it, and what it leaves.
+    /// An item with no separator after it, and what it leaves.
     Last(&'a str, O),
     /// No item.
     End,
@@ -92,7 +92,7 @@ where
     }
 }
 
-/// The next item with the separator behind it.
+/// The next item with the separator after it.
 pub fn next_separated<'a, A: Combinator<'a>, B: Combinator<'a>>(
     item: &A,
     separator: &B,

@@ -37,7 +37,7 @@ fn in_order(changes: Vec<TextChange>) -> Result<Vec<TextChange>, AllocError>
     Ok(sorted)
 }
 
-// The source with the changes applied as they stand.
+// The source with the changes applied in this order.
 fn applied(alloc: Global, source: &str, changes: &[TextChange]) -> Result<String, TextChangeError>
     ensures faultless { OnOk result (first_fault source.now 0 0 changes.now ≡ None) }
     ensures value { IfOk result (λ text. string_bytes text ≡ changed source.now 0 changes.now) }
@@ -56,7 +56,7 @@ fn applied(alloc: Global, source: &str, changes: &[TextChange]) -> Result<String
     Ok(text)
 }
 
-// Whether this change, behind one that ends at `past`, can be applied.
+// Whether this change, after one that ends at `past`, can be applied.
 fn check(
     source: &str,
     past: usize,

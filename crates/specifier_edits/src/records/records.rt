@@ -5,7 +5,7 @@ ghost use Rattle.specifier_edits.specs.records.Records.{HasValue, value_of, IsTo
 use std::alloc::{AllocError, Global};
 use std::str;
 
-/// A new specifier for a site. Places are bytes of a buffer, and an end is the byte behind.
+/// A new specifier for a site. Offsets are in bytes of a buffer, and an end is exclusive.
 #[repr(C)]
 #[derive(Clone, Copy)]
 pub struct SourceChange {

@@ -1,4 +1,4 @@
-//! The calls of a system in memory, drafted as they will stand in the log, each with what it will answer.
+//! The calls of a system in memory, drafted as they will appear in the log, each with what it will answer.
 ghost use Rattle.std.specs.Prelude.{◌≡◌, ◌+◌, [], Some, None, length, slice_index, IfOk, string_bytes};
 ghost use Rattle.sys_traits.specs.Paths.{spot};
 ghost use Rattle.sys_traits.specs.Files as lists;
@@ -38,7 +38,7 @@ impl InMemorySys {
         Ok((call, spot))
     }
 
-    // With the folders behind it.
+    // With the folders after the call.
     pub fn creating(&self, path: &str) -> Result<(SysCall, Items<Text>), AllocError>
         ensures { Drafts result (spec.creating self.now path.now)
             (λ made. made ≡ (spec.created self.now path.now).made) }
@@ -154,7 +154,7 @@ impl InMemorySys {
         Ok((call, ()))
     }
 
-    // With the random byte, and the place of the one behind it.
+    // With the random byte, and the index of the next one.
     pub fn drawing(&self) -> Result<(SysCall, (u8, usize)), AllocError>
         ensures { Drafts result (spec.drawing self.now)
             (λ answer. (answer.0 ≡ slice_index self.now.random self.now.next)

@@ -20,7 +20,7 @@ pub fn rooted(alloc: Global, path: Text) -> Result<Text, AllocError>
     Ok(Text::from_string(rooted))
 }
 
-// The folders that are given, and those that the files stand in.
+// The folders that are given, and those that the files are in.
 pub fn folders(
     alloc: Global,
     folder: &str,
@@ -62,7 +62,7 @@ fn push_parents(
     Ok(())
 }
 
-// The folder that the path stands in, as seen from a folder.
+// The folder that the path is in, as seen from a folder.
 fn parent_in(alloc: Global, folder: &str, path: &str) -> Result<Text, AllocError>
     ensures { IfOk result (λ t. t ≡ parent_of (spot folder.now path.now)) }
 {
@@ -101,7 +101,7 @@ fn placed(alloc: Global, folder: &str, files: &[(Text, Items<u8>)]) -> Result<Fi
     Ok(placed)
 }
 
-// Takes the files away that stand at the folder or above it.
+// Removes the files at the folder or above it.
 fn take_at_or_above(files: &mut FileMap, folder: &str)
     ensures { files.new ≡ filter (λ file. not (is_at_or_below file.0 folder.now)) files.old }
 {

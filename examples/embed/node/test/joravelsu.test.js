@@ -3,7 +3,8 @@ const assert = require("node:assert/strict");
 const { test } = require("node:test");
 const joravelsu = require("..");
 
-const { sites, unread, rewrite, report, version, SourceError, ChangeError, BundleError } = joravelsu;
+const { sites, unread, rewrite, build, report, version, Builder } = joravelsu;
+const { SourceError, ChangeError, BundleError, AnswerError, TooManyModules } = joravelsu;
 
 test("sites", () => {
   assert.deepEqual(sites('import "./b.ts";', "TypeScript"), [
@@ -69,6 +70,67 @@ test("report", () => {
   ].join("\n"));
   assert.throws(() => report("{}"), (e) => e instanceof BundleError && e.message === 'error Bundle "/roots"');
   assert.throws(() => report({ ...bundle, limit: 1 }), (e) => e.message === "error TooManyModules 2");
+});
+
+const FILES = new Map([
+  ["file:///a.ts", 'import "./b.ts" with { type: "json" };\n  import("./c");'],
+  ["file:///b.ts", "{}"],
+  ["file:///c", { redirect: "file:///c.ts" }],
+  ["file:///c.ts", "é; 1 = 2"],
+]);
+
+test("build", async () => {
+  const graph = await build(["file:///a.ts"], async (specifier) => FILES.get(specifier));
+  assert.deepEqual(graph.entries.map((entry) => entry.specifier), [...FILES.keys()]);
+  const [a] = graph.entries;
+  assert.deepEqual(a.edges, [
+    { kind: "import", typeOnly: false, start: 7, end: 15, value: "./b.ts", attribute: "json", target: null, targetSpecifier: null,
+      fault: "InvalidTypeAssertion" },
+    { kind: "dynamic", typeOnly: false, start: 48, end: 53, value: "./c", attribute: null, target: 2, targetSpecifier: "file:///c",
+      fault: null },
+  ]);
+  assert.deepEqual(graph.place(a, 48), [2, 10]);
+  assert.equal(graph.place(a, 1000), null);
+  const c = graph.resolve("file:///c");
+  assert.deepEqual([c.state, c.fault, c.place], ["error", "Parse", 4]);
+  assert.equal(graph.get("file:///d.ts"), undefined);
+});
+
+test("build loads at the same time", async () => {
+  let [now, most] = [0, 0];
+  const graph = await build(["file:///a.ts"], async (specifier) => {
+    most = Math.max(most, ++now);
+    await new Promise((resolve) => setTimeout(resolve, 5));
+    now--;
+    return specifier.endsWith("/a.ts") ? Array.from({ length: 50 }, (_, i) => `import "./${i}.ts";`).join("") : "";
+  });
+  assert.deepEqual([graph.entries.length, most], [51, 50]);
+});
+
+test("build with options, and what ends it", async () => {
+  const importMap = { base: "file:///", map: { imports: { x: "./lib/x.css" } } };
+  const graph = await build(["file:///a.ts"], (specifier) => (specifier.endsWith("/a.ts") ? 'import "x"; import "y";' : { body: "" }), { importMap });
+  assert.deepEqual(graph.entries.map(({ specifier, fault, mediaType }) => [specifier, fault, mediaType]), [
+    ["file:///a.ts", null, "TypeScript"],
+    ["file:///lib/x.css", "UnsupportedMediaType", "Css"],
+  ]);
+  assert.equal(graph.entries[0].edges[1].fault, "ImportPrefixMissing");
+  await assert.rejects(build(["file:///a.ts"], () => Promise.reject(new RangeError("no"))), RangeError);
+  await assert.rejects(build(["file:///a.ts"], (specifier) => FILES.get(specifier), { limit: 1 }), (e) => e instanceof TooManyModules && e.seen === 2);
+  await assert.rejects(build(["a"], () => ""), (e) => e instanceof BundleError && e.message === 'error Bundle "/roots/0"');
+});
+
+test("answers that aren't taken", () => {
+  const builder = new Builder(["file:///a.ts"]);
+  assert.throws(() => builder.answer(0, ""), (e) => e instanceof AnswerError && e.status === 20);
+  assert.equal(builder.poll(), false);
+  assert.deepEqual([...builder.wanted()], [[0, "file:///a.ts"]]);
+  assert.throws(() => builder.answer(0, { redirect: "b" }), (e) => e.status === 23);
+  builder.answer(0, { external: true });
+  assert.throws(() => builder.answer(0, ""), (e) => e.status === 21);
+  assert.equal(builder.poll(), true);
+  assert.equal(builder.entry(0).state, "external");
+  assert.equal(builder.entry(1), null);
 });
 
 test("as a module of ECMAScript", async () => {

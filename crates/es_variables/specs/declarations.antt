@@ -1,2 +1,0 @@
--- the parts in a row of entries
-pub mod Rows

@@ -1,0 +1,6 @@
+-- What the proofs rest on.
+mod TextLemmas
+mod AskingLemmas
+mod RecordsLemmas
+mod SessionLemmas
+mod CallsLemmas

@@ -1,0 +1,244 @@
+"""The C library in the place of the program, in this process: it has no bundle to read, asks for each file that is reached, and
+knows no limit of bytes."""
+import json
+import os
+import shutil
+import sys
+
+from parts import kit as kits
+from parts import library, sites, unproved, urls
+from parts.words import MOST_BYTES, Wrong
+
+# The media types by which texts are read, by the ending of the name.
+MEDIA_TYPES = {".d.ts": 0, ".d.mts": 1, ".d.cts": 2, ".ts": 3, ".mts": 4, ".cts": 5, ".tsx": 6, ".js": 7, ".mjs": 8, ".cjs": 9, ".jsx": 10}
+NOT_A_PROGRAM = (10, 11)
+# So many bytes are read in a few hundredths of a second.
+FEW_BYTES = 1_000_000
+TYPED = ("import", "export", "import-equals")
+
+
+class Reader(sites.Reader):
+    """Asks the library for the sites of files, each where it is reached."""
+
+    reads_ahead = False
+    most = sys.maxsize - 1
+
+    @staticmethod
+    def content_of(_place, data):
+        return {"bytes": data}
+
+    def read_anew(self, contents):
+        found = dict(zip(contents, self.read_each(contents)))
+        for file_sites in found.values():
+            for site in file_sites:
+                if site.value.startswith("data:") and site.value not in self.of_data:
+                    self.of_data.update(self.program.edges_alone(site.value))
+        return found
+
+    def read_each(self, contents):
+        """The sites of each file: of many bytes on several processors, since a call of the library holds no lock of Python's."""
+        items = [(place, content["bytes"]) for place, content in contents.items()]
+        if len(items) < 2 or sum(len(data) for _, data in items) < FEW_BYTES:
+            return [self.program.sites_of(place, data) for place, data in items]
+        from concurrent import futures
+
+        with futures.ThreadPoolExecutor(os.cpu_count()) as pool:
+            return list(pool.map(lambda item: self.program.sites_of(*item), items))
+
+
+class Library:
+    """What the program says, by the library's calls."""
+
+    reader = Reader
+
+    def __init__(self, path):
+        self.path = path
+        self.api = library.loaded(path)
+        self.proved = path.endswith(".proved.so") or bool((kits.release() or {}).get("proved"))
+
+    def report(self, bundle):
+        """The status, and what the program writes for a bundle."""
+        try:
+            return 0, self.api.graph(bundle).encode()
+        except self.api.BundleError as error:
+            return error.status, f"{error}\n".encode()
+
+    # ---- the graph
+
+    def graph(self, settings, modules):
+        """The status and the report of the graph of a bundle, by its modules and what else it has; the bundle isn't made."""
+        given = self.given(modules)
+        try:
+            builder = self.api.Builder(**settings)
+            start = 0
+            while not builder.poll():
+                for number, specifier in list(builder.wanted(start)):
+                    builder.answer(number, self.answer_of(given.get(specifier)))
+                    start = number + 1
+        except self.api.TooManyModules as error:
+            return 1, f"error TooManyModules {error.seen}\n".encode()
+        except self.api.BundleError as error:
+            return 2, f"{error}\n".encode()
+        return 0, self.lines_of(builder, settings).encode()
+
+    def given(self, modules):
+        """The modules by their specifiers as the program reads these."""
+        names = [module["specifier"] for module in modules]
+        odd = [name for name in names if not is_plain(name)]
+        read = dict(zip(odd, self.read_urls(odd)))
+        given = {}
+        for number, (name, module) in enumerate(zip(names, modules)):
+            if read.get(name, name) in given:
+                raise Wrong(f'there is no graph: error Bundle "/modules/{number}/specifier"')
+            given[read.get(name, name)] = module
+        return given
+
+    def read_urls(self, texts):
+        """URLs as the program reads them."""
+        return [line[len("root "):] for line in self.frame(texts) if line.startswith("root ")] if texts else []
+
+    def frame(self, roots, **more):
+        """The lines of the report where no module is there."""
+        value = {"roots": roots, "limit": 1_000_000, **more, "modules": []}
+        status, said = self.report(json.dumps(value).encode())
+        if status:
+            raise Wrong(f"there is no graph: {said.decode().strip()}")
+        return said.decode().split("\n")
+
+    def answer_of(self, module):
+        if module is None:
+            return None
+        if "redirect" in module:
+            return self.api.Redirect(module["redirect"])
+        if "external" in module:
+            return self.api.EXTERNAL
+        return module["bytes"]
+
+    def lines_of(self, builder, settings):
+        """The report, as docs/REPORT.md has it."""
+        entries = sorted(self.api.Graph(builder).entries, key=lambda entry: entry.specifier)
+        packages = [entry.specifier for entry in entries if entry.state == "package"]
+        roots, asked = settings["roots"], {}
+        if "imports" in settings:
+            asked = {"imports": settings["imports"], **self.map_of(settings)}
+        if asked or packages or not all(map(is_plain, roots)):
+            frame = self.frame([*roots, *packages], **asked)
+        else:
+            frame = [f"root {root}" for root in roots]
+        lines = frame[:len(roots)] + [line for line in frame if line.startswith("import ")]
+        states = {line.split(" ")[0]: line for line in frame if " package " in line and not line.startswith(" ")} if packages else {}
+        for entry in entries:
+            lines.append(states.get(entry.specifier) or line_of(entry))
+            lines += map(self.edge_line, entry.edges)
+        return "".join(line + "\n" for line in [*lines, f"entries {len(entries)}"])
+
+    @staticmethod
+    def map_of(settings):
+        """The rows of the import map by which the imports of referrers outside may be resolved."""
+        if "importMap" not in settings:
+            return {}
+        keys = {urls.joined(row["referrer"], value) for row in settings["imports"] for value in row["imports"]}
+        rows = settings["importMap"]["map"]
+
+        def some(table):
+            return {key: url for key, url in table.items() if key in keys or key.endswith("/")}
+
+        scopes = {scope: some(table) for scope, table in rows.get("scopes", {}).items()}
+        return {"importMap": {**settings["importMap"], "map": {"imports": some(rows["imports"]), "scopes": {scope: table for scope, table in scopes.items() if table}}}}
+
+    def edge_line(self, edge):
+        kind = f"{edge.kind}-type" if edge.type_only and edge.kind in TYPED else edge.kind
+        span = f"{edge.start}-{edge.end}" if edge.end else "-"
+        attribute = "-" if edge.attribute is None else "?" if edge.attribute is self.api.UNKNOWN else quoted(edge.attribute)
+        outcome = f"! {edge.fault}" if edge.fault else f"-> {edge.target_specifier}"
+        return f"  {kind} {span} {quoted(edge.value)} {attribute} {outcome}"
+
+    # ---- texts
+
+    def sites_of(self, place, data):
+        """The sites of a file, and of the data: URLs that it names."""
+        ending = sites.ending_of(place)
+        if ending is None:
+            return ()
+        if ending == ".wasm" or len(data) > MOST_BYTES:
+            return self.edges_alone(f"file:///0{ending}", data).get(f"file:///0{ending}", ())
+        try:
+            found = self.api.imports_of(data, MEDIA_TYPES[ending])
+        except self.api.SourceError:
+            return ()
+        return list(dict.fromkeys(site_of(it) for it in found))
+
+    def edges_alone(self, root, data=None):
+        """The sites of a module, and of each data: URL below it, with nothing else in the graph."""
+        try:
+            builder = self.api.Builder([root], limit=1_000_000)
+        except self.api.BundleError:
+            return {}
+        start = 0
+        while not builder.poll():
+            for number, specifier in list(builder.wanted(start)):
+                builder.answer(number, data if specifier == root else None)
+                start = number + 1
+        return {entry.specifier: list(dict.fromkeys(map(site_of, entry.edges))) for entry in self.api.Graph(builder).entries if entry.edges}
+
+    def which_are_read(self, specifier, texts):
+        """Of each text whether it is a program of the grammar, as a module of this specifier's ending."""
+        media_type = MEDIA_TYPES.get(sites.ending_of(specifier) or ".js")
+        return [self.is_read(text.encode("utf-8", "surrogatepass"), media_type) for text in texts]
+
+    def is_read(self, data, media_type):
+        try:
+            self.api.imports_of(data, media_type)
+        except self.api.SourceError as error:
+            return error.status not in NOT_A_PROGRAM
+        return True
+
+
+def site_of(edge):
+    return sites.Site(f"{edge.kind}-type" if edge.type_only and edge.kind in TYPED else edge.kind, edge.value)
+
+
+def quoted(text):
+    """A text as a JSON string."""
+    if text.isascii() and text.isprintable() and '"' not in text and "\\" not in text:
+        return f'"{text}"'
+    return json.dumps(text, ensure_ascii=False)
+
+
+def is_plain(specifier):
+    """Whether the program reads a URL as it is written: that of a file whose path has plain characters and no dots."""
+    return specifier.startswith("file:///") and bool(urls.PLAIN.fullmatch(specifier, len("file:///"))) and "/." not in specifier and "//" not in specifier[len("file:///"):]
+
+
+def line_of(entry):
+    """The line of an entry that is no package."""
+    if entry.state == "module":
+        return f"{entry.specifier} module {entry.media_type} {entry.size}"
+    if entry.state == "redirect":
+        return f"{entry.specifier} redirect {entry.target_specifier}"
+    return f"{entry.specifier} external" if entry.state == "external" else f"{entry.specifier} error {entry.fault}"
+
+
+def is_better_proved():
+    """Whether the program is proved, and of the library only an unproved one can be had."""
+    return not os.environ.get("JORAVELSU_LIBRARY") and not kits.release() and bool(kits.proved_program()) and not library.is_proved()
+
+
+def has_only_to_be_linked():
+    """Whether all that the library is made of is there."""
+    if kits.release() or not (shutil.which("cc") and shutil.which("objcopy")):
+        return False
+    return library.is_proved() or bool(kits.kept(unproved.name_of_library()))
+
+
+def found(asked):
+    """The library, where it is there and isn't refused; None where the program is to be asked."""
+    if asked == "program" or (asked is None and is_better_proved()):
+        return None
+    try:
+        path = library.place() or (library.made() if asked or has_only_to_be_linked() else None)
+        return Library(path) if path else None
+    except (library.NoLibrary, kits.NoKit, OSError):
+        if asked:
+            raise
+        return None

@@ -1,0 +1,155 @@
+"""./joravelsu by the library and by the program: the same graphs, byte for byte, and what only the library can do."""
+import json
+import os
+import subprocess
+import sys
+import tempfile
+import unittest
+from unittest import mock
+
+TOOLS = os.path.dirname(os.path.dirname(os.path.abspath(__file__)))
+ROOT = os.path.dirname(TOOLS)
+sys.path.insert(0, TOOLS)
+from parts import builder, kit, library, packing, sites, words  # noqa: E402
+
+JORAVELSU = os.path.join(ROOT, "joravelsu")
+PROJECTS = os.path.join(ROOT, "examples", "projects")
+# What imports of all kinds lead to, and what is wrong with some of them.
+FILES = {
+    "package.json": {"name": "it", "imports": {"#in": "./src/a.ts"}},
+    "deno.json": {"imports": {"mapped/": "./src/d/", "refused": "../x"}},
+    "src/main.ts": """/// <reference path="types.d.ts" />
+/// <reference types="p" />
+import "./a"; import type { T } from "./t"; export * from './d'; import x = require("./x"); import "#in";
+import j from "./j.json" with { type: "json" }; import k from "./j.json"; import m from "./m.wasm"; import source n from "./m.wasm";
+import "node:fs"; import "fs"; import "npm:p@1/sub"; import "npm:"; import "jsr:@a/b@^2"; import "https://h.test/a.ts"; import "mapped/index.js"; import "refused";
+import "data:text/javascript,import 'file:///src/a.ts'; import 'data:text/javascript,1'"; import "data:text/javascript;base64,?"; import "none"; import "../../out.ts"; import "http://[";
+import("./b%20c.ts"); import("./b c.ts"); import(`./d`); import("./d/"); import defer * as q from "./d/../a"; import "./é.js"; import "./a?query"; import "./a.ts#fragment"; import ".";
+import "./broken.ts"; import "./bytes.js"; import "./mark.ts"; import "./UPPER.TS"; import "./gone"; import "./data.css"; import "p"; import "p/lib/x.js"; import "q"; import "./\\u{1F600}\\n"; import "";
+""",
+    "src/types.d.ts": 'import "./a"; declare module "y" { import "./t"; }', "src/a.ts": 'export {}; import "./main.ts"; import "./a";', "src/t.ts": "export type T = 1;",
+    "src/d/index.js": 'import "../main.ts"; import "p";', "src/d/index.d.ts": "export {};", "src/x.cjs": 'require("./y"); import("./a.ts")', "src/x.ts": "export = 1;", "src/j.json": "{}",
+    "src/b c.ts": 'import "./b%20c.ts"', "src/é.js": "import './é.js'; '😀'; import './a.ts'", "src/broken.ts": "import './a'; import {", "src/mark.ts": "\ufeffimport './a';", "src/UPPER.TS": "import './a'",
+    "src/index.ts": "export {}", "src/data.css": "a {}", "src/comment.ts": "", "node_modules/p/package.json": {"main": "main.js", "types": "main.d.ts"}, "node_modules/p/main.js": 'import "./lib/x"; import "fs"',
+    "node_modules/p/main.d.ts": "export {}", "node_modules/p/lib/x.js": "exports.a = require('q')", "node_modules/q/package.json": {"exports": {".": {"types": "./q.d.ts", "default": "./q.mjs"}}}, "node_modules/q/q.mjs": "", "node_modules/q/q.d.ts": "",
+}
+
+
+def ran(*asked, at=ROOT):
+    done = subprocess.run([JORAVELSU, *asked], capture_output=True, cwd=at, env={**os.environ, "JORAVELSU_QUIET": "1"}, check=False)
+    return done.returncode, done.stdout, done.stderr
+
+
+class Loader(unittest.TestCase):
+    @classmethod
+    def setUpClass(cls):
+        cls.library = library.made()
+
+    def setUp(self):
+        room = tempfile.TemporaryDirectory()
+        self.addCleanup(room.cleanup)
+        self.room = os.path.realpath(room.name)
+
+    def put(self, files):
+        for path, text in files.items():
+            place = os.path.join(self.room, path)
+            os.makedirs(os.path.dirname(place), exist_ok=True)
+            with open(place, "w", encoding="utf-8") as file:
+                file.write(text if isinstance(text, str) else json.dumps(text))
+
+    def same(self, verb, *asked, at=None):
+        """What both say."""
+        by_program, by_library = (ran(verb, "--loader", it, *asked, at=at or self.room) for it in ("program", "library"))
+        self.assertEqual(by_library, by_program)
+        return by_library
+
+
+class Same(Loader):
+    def test_of_the_example_projects(self):
+        for root in ("demo/src/main.ts", "site/app/main.ts", "routes/main.ts", "shop/main.js"):
+            for asked in (["graph"], ["check", "--all", "--kind", "types"]):
+                self.same(*asked, "--no-cache", os.path.join(PROJECTS, root), at=ROOT)
+
+    def test_of_all_kinds(self):
+        self.put(FILES)
+        for name, data in (("m.wasm", b"\0asm\x01\0\0\0\x02\x0c\x01\x06./a.ts\x01f\0\0"), ("bytes.js", b"import './a'; '\xff'")):
+            with open(os.path.join(self.room, "src", name), "wb") as file:
+                file.write(data)
+        for asked in ([], ["--kind", "code", "--external", "https://*"], ["--kind", "types"], ["--kind", "all", "--also", "*", "--browser", "--deno", "none"]):
+            status, out, _ = self.same("graph", "--no-cache", *asked, "src/main.ts")
+            self.assertEqual(status, 0)
+            self.assertGreater(out.count(b"\n"), 60)
+        for asked in (["check", "--json"], ["check"], ["graph", "--json"], ["graph", "src/mark.ts", "src/é.js", "https://h.test/x y"], ["why", "src/t.ts"], ["unread"]):
+            self.same(*asked[:1], "--no-cache", *asked[1:], "src/main.ts")
+        for name in ("main.ts", "m.wasm", "bytes.js", "broken.ts", "é.js"):
+            self.same("imports", f"src/{name}")
+
+    def test_what_ends_it(self):
+        self.put({"a.ts": "", "deno.json": {"imports": {"a": 1}}})
+        for asked in (["b.ts"], ["--tsconfig", "none.json", "a.ts"], ["http://["], ["a.ts"]):
+            self.same("graph", *asked)
+
+    def test_vendored(self):
+        self.put({"main.ts": 'import "./a"; import("https://h.test/x")', "a.ts": 'import "./main"'})
+        for loader in ("program", "library"):
+            self.assertEqual(ran("vendor", "--loader", loader, "--external", "https://*", "-o", loader, "main.ts", at=self.room)[:2], (0, f"2 files; {loader}/main.ts\n".encode()))
+        for name in ("main.ts", "a.ts"):
+            with open(os.path.join(self.room, "program", name), "rb") as one, open(os.path.join(self.room, "library", name), "rb") as other:
+                self.assertEqual(one.read(), other.read())
+
+
+class Library(Loader):
+    def test_more_than_the_program_reads(self):
+        for name, count in (("a.js", 9_000_000), ("b.js", 17_000_000)):
+            self.put({name: f"import './c.js'; //{'/' * count}"})
+        self.put({"main.ts": "import './a.js'; import './b.js'", "c.js": ""})
+        status, out, _ = ran("graph", "--loader", "library", "main.ts", at=self.room)
+        self.assertEqual((status, out.count(b" module "), out.count(b' -> file:///c.js\n')), (0, 4, 2))
+
+    def test_files_are_read_once_and_only_if_they_are_reached(self):
+        self.put({"a.ts": 'import "./b"; import "./b.ts"; // import "./c"', "b.ts": 'import "./a"', "c.ts": ""})
+        read, real = [], words.read_regular
+        with mock.patch.object(packing, "read_regular", lambda path, most: (read.append(os.path.basename(path)), real(path, most))[1]):
+            asked = kit.tool("pack").options().parse_args([self.room, "a.ts"])
+            packer, roots = packing.packed(asked, builder.Reader(builder.Library(self.library)), sys.stderr)
+        self.assertEqual((read, roots), (["a.ts", "b.ts"], ["file:///a.ts"]))
+
+    def test_the_cache_is_by_content(self):
+        self.put({"a.ts": 'import "./b"', "b.ts": "", "c.ts": ""})
+        made, asked = builder.Library(self.library), []
+        with mock.patch.object(made, "sites_of", lambda place, data: (asked.append(place), builder.Library.sites_of(made, place, data))[1]):
+            from parts import records
+            with mock.patch.object(kit, "KEPT", os.path.join(self.room, "kept")):
+                for text, wanted in ((None, ["a.ts", "b.ts"]), (None, []), ('import "./c"', ["a.ts"])):
+                    if text:
+                        self.put({"a.ts": text})
+                    kept = records.Records(made)
+                    packing.packed(kit.tool("pack").options().parse_args([self.room, "a.ts"]), builder.Reader(made, kept), sys.stderr)
+                    kept.save()
+                    self.assertEqual(sorted(asked), wanted)
+                    asked.clear()
+
+    def test_which_texts_are_programs(self):
+        made = builder.Library(self.library)
+        for name, texts, wanted in (("a.ts", ["let a", "let", "'", "a b", "let a: T"], [True, False, False, False, True]), ("a.js", ["let a: T"], [False]), ("x", ["a"], [True])):
+            self.assertEqual(made.which_are_read(f"file:///{name}", texts), wanted)
+
+    def test_specifiers_that_are_two_ways_written(self):
+        made = builder.Library(self.library)
+        self.assertEqual(made.read_urls(["external:a b", "node:fs", "file:///%61/../b"]), ["external:a b", "node:fs", "file:///b"])
+        with self.assertRaisesRegex(words.Wrong, '^there is no graph: error Bundle "/modules/1/specifier"$'):
+            made.given([{"specifier": "file:///b", "bytes": b""}, {"specifier": "file:///a/../b", "bytes": b""}])
+        self.assertEqual(made.graph({"roots": ["file:///a.ts"], "limit": 1}, [{"specifier": "file:///a.ts", "bytes": b"import './b'"}]), (1, b"error TooManyModules 2\n"))
+        self.assertEqual(made.graph({"roots": ["a.ts"]}, []), (2, b'error Bundle "/roots/0"\n'))
+
+    def test_no_library(self):
+        with mock.patch.dict(os.environ, {"JORAVELSU_LIBRARY": os.path.join(self.room, "none.so")}):
+            self.assertIsNone(builder.found(None))
+            with self.assertRaises(library.NoLibrary):
+                builder.found("library")
+        self.assertIsNone(builder.found("program"))
+        self.assertEqual(sites.content_of("a.ts", b"a"), {"text": "a"})
+
+
+if __name__ == "__main__":
+    unittest.main()
