@@ -1,6 +1,7 @@
 """./joravelsu by the library and by the program: the same graphs, byte for byte, and what only the library can do."""
 import json
 import os
+import shutil
 import subprocess
 import sys
 import tempfile
@@ -66,9 +67,10 @@ class Loader(unittest.TestCase):
 
 class Same(Loader):
     def test_of_the_example_projects(self):
+        shutil.copytree(PROJECTS, os.path.join(self.room, "projects"))
         for root in ("demo/src/main.ts", "site/app/main.ts", "routes/main.ts", "shop/main.js"):
             for asked in (["graph"], ["check", "--all", "--kind", "types"]):
-                self.same(*asked, "--no-cache", os.path.join(PROJECTS, root), at=ROOT)
+                self.same(*asked, "--no-cache", os.path.join("projects", root))
 
     def test_of_all_kinds(self):
         self.put(FILES)
