@@ -38,10 +38,10 @@ module _ (entries : Entries) (g : Links) (m : Naming entries g) where
   abbrev pub Within : List ℕ → Type 0
   Within front = AllByRecursion (λ t. t < length g) front
 
-  target_within : (v k : ℕ) → k < length (links_of g v) → slice_index (links_of g v) k < length g
+  pub target_within : (v k : ℕ) → k < length (links_of g v) → slice_index (links_of g v) k < length g
   target_within v k l = all_at (λ t. t < length g) (links_of g v) k (m.within v) l
 
-  within_more : (front : List ℕ) (v : ℕ) → Within front → v < length g → Within (front ++ v ∷ [])
+  pub within_more : (front : List ℕ) (v : ℕ) → Within front → v < length g → Within (front ++ v ∷ [])
   within_more [] v w l = (l, tt)
   within_more (x ∷ front) v w l = (w.0, within_more front v w.1 l)
 
@@ -61,7 +61,7 @@ module _ (entries : Entries) (g : Links) (m : Naming entries g) where
           let yes : bytes_eq (m.name u) (m.name v) ≡ true
           = ap (λ (w : ℕ). bytes_eq (m.name u) (m.name w)) (sym same) ∙ nat_list_eq_equiv.refl (m.name u) in absurd cc
 
-  has-name : (front : List ℕ) (v : ℕ) → Within front → v < length g → has (map m.name front) (m.name v) ≡ n.has front v
+  pub has-name : (front : List ℕ) (v : ℕ) → Within front → v < length g → has (map m.name front) (m.name v) ≡ n.has front v
   has-name [] v w l = refl
   has-name (x ∷ front) v w l =
       ap (λ b. b || has (map m.name front) (m.name v)) (eq-name v x l w.0)
@@ -176,12 +176,12 @@ module _ (entries : Entries) (g : Links) (m : Naming entries g) where
 
   -- ---- chains and cycles
 
-  chain_to : (v w : ℕ) (path : List Link) → n.IsChain g v path w
+  pub chain_to : (v w : ℕ) (path : List Link) → n.IsChain g v path w
       → IsChain entries (m.name v) (map at path) (m.name w)
   chain_to v w [] h = ap m.name h
   chain_to v w (e ∷ rest) h = (ap m.name h.0, m.edge e.0 e.1 h.1, chain_to (n.target g e) w rest h.2)
 
-  chain_back : (v : ℕ) (t : Specifier) (path : List Edge) → v < length g → IsChain entries (m.name v) path t
+  pub chain_back : (v : ℕ) (t : Specifier) (path : List Edge) → v < length g → IsChain entries (m.name v) path t
       → (links : List Link) × (w : ℕ) × (map at links ≡ path) × (m.name w ≡ t) × (w < length g)
       × n.IsChain g v links w
   chain_back v t [] l h = ([], v, refl, h, l, refl)

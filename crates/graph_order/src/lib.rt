@@ -15,8 +15,8 @@ mod check;
 mod edges;
 mod find;
 mod found;
-mod names;
-mod nodes;
+pub mod names;
+pub mod nodes;
 
 pub use check::{check_cycle, check_order};
 pub use find::order;
