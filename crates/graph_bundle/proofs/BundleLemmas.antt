@@ -17,11 +17,12 @@ use Rattle.serde_json.specs.Data.{Data, Items, Members}
 use Rattle.serde_json.specs.Find.{as_array, as_object, as_null, get}
 use Rattle.serde_json.specs.View.{view, items_view}
 use Rattle.serde_json.specs.declared.value.Value.{Value}
-use Rattle.import_map.specs.json_reading.Reading.{Reading, and_then, said, object_of, before, under, pointer, url_of, items_list, each_from, each_of, or_default, required, optional, only}
+use Rattle.import_map.specs.json_reading.Reading.{Reading, and_then, said, bool_of, object_of, before, under, pointer, url_of, items_list, each_from, each_of, or_default, required, optional, only}
 use Rattle.import_map.proofs.json_reading_lemmas.ReadingLemmas.{items_list-items_of, prepend, prepend-before}
-use Rattle.graph_bundle.specs.Bundle.{modules_from, modules_of, module_after, module_from, new_specifier, headers_of, answer_of, knows_module, arrival_of, options_of, some_import_map, knows_bundle, bundle_from, bundle_of, specifiers}
+use Rattle.graph_bundle.specs.Bundle.{modules_from, modules_of, module_after, module_from, new_specifier, headers_of, answer_of, knows_module, arrival_of, options_of, some_import_map, knows_bundle, bundle_from_by, bundle_of, knows_chosen, chosen_from_by, chosen_from, chosen_of, specifiers}
 use Rattle.import_map.specs.ImportMap.{MapData}
 use Rattle.graph_bundle.specs.declared.bundle.Bundle.{Bundle}
+use Rattle.graph_bundle.specs.declared.chosen.ChosenBundle.{ChosenBundle}
 
 -- what the values of a list say
 pub modules_array : (value : Data) (vs : List Value) → Some (items_view vs) ≡ as_array value
@@ -98,13 +99,13 @@ unforced_from (Ok given) (Ok wanted) (Ok told) (Ok order) (Ok map_found) (Ok don
     ≡ bundle = cc in
     subst (λ (b : Bundle). list_any is_forced b.arrival ≡ false) same (free order refl)
 
-object_free : (value : Data) (o : Option Members) (bundle : Bundle)
-    → and_then (bundle_from value) (said o) ≡ Ok bundle → list_any is_forced bundle.arrival ≡ false
-object_free value None bundle is = absurd (cc)
-object_free value (Some members) bundle is =
+object_free : (knows : List ℕ → Bool) (value : Data) (o : Option Members) (bundle : Bundle)
+    → and_then (bundle_from_by knows value) (said o) ≡ Ok bundle → list_any is_forced bundle.arrival ≡ false
+object_free knows value None bundle is = absurd (cc)
+object_free knows value (Some members) bundle is =
     unforced_from (required (each_of url_of) (codes "roots") value) (options_of value)
     (required modules_of (codes "modules") value) (optional (each_of arrival_of) [] (codes "arrival") value)
-    (optional some_import_map None (codes "importMap") value) (only knows_bundle members) bundle
+    (optional some_import_map None (codes "importMap") value) (only knows members) bundle
     (λ xs e. list_free (get (codes "arrival") value) xs
     (under_ok (codes "arrival") (or_default (each_of arrival_of) [] (get (codes "arrival") value)) xs e)) is
 
@@ -112,7 +113,35 @@ object_free value (Some members) bundle is =
 pub bundle_unforced : (value : Data) (bundle : Bundle) → bundle_of value ≡ Ok bundle
     → list_any is_forced bundle.arrival ≡ false
 unfolding bundle_of
-bundle_unforced value bundle is = object_free value (as_object value) bundle is
+bundle_unforced value bundle is = object_free knows_bundle value (as_object value) bundle is
+
+-- what a choice and a bundle say together has the bundle
+chosen_bundle : (allowed : Reading Bool) (bundle : Reading Bundle) (chosen : ChosenBundle)
+    → and_then (λ a. and_then (λ b. Ok (record { bundle = b; json_without_attribute = a })) bundle) allowed ≡ Ok chosen
+    → bundle ≡ Ok chosen.bundle
+chosen_bundle (Err at) bundle chosen is = absurd (cc)
+chosen_bundle (Ok allowed) (Err at) chosen is = absurd (cc)
+chosen_bundle (Ok allowed) (Ok bundle) chosen is =
+    let same : record { bundle = bundle; json_without_attribute = allowed } ≡ chosen = cc in
+    ap (λ (c : ChosenBundle). Ok c.bundle) same
+
+-- nor in one with choices
+pub members_unforced : (knows : List ℕ → Bool) (value : Data) (members : Members) (chosen : ChosenBundle)
+    → chosen_from_by knows value members ≡ Ok chosen → list_any is_forced chosen.bundle.arrival ≡ false
+members_unforced knows value members chosen is =
+    object_free knows value (Some members) chosen.bundle
+    (chosen_bundle (optional bool_of false (codes "jsonWithoutAttribute") value) (bundle_from_by knows value members)
+    chosen is)
+
+pub chosen_unforced : (value : Data) (chosen : ChosenBundle) → chosen_of value ≡ Ok chosen
+    → list_any is_forced chosen.bundle.arrival ≡ false
+unfolding chosen_of
+chosen_unforced value chosen is = by (as_object value) is
+  where
+    by : (o : Option Members) → and_then (chosen_from value) (said o) ≡ Ok chosen
+        → list_any is_forced chosen.bundle.arrival ≡ false
+    by None is = absurd (cc)
+    by (Some members) is = members_unforced knows_chosen value members chosen is
 
 -- ---- the next module
 

@@ -22,6 +22,7 @@ use Rattle.graph_builder.specs.declared.options.BuildOptions.{BuildOptions}
 use Rattle.graph_builder.specs.Reach.{Specifier, has}
 use Rattle.import_map.specs.ImportMap.{MapData, map_of}
 use Rattle.graph_bundle.specs.declared.bundle.Bundle.{Bundle}
+use Rattle.graph_bundle.specs.declared.chosen.ChosenBundle.{ChosenBundle}
 
 -- the bytes are a JSON text of this value
 abbrev pub IsJson : List ℕ → Data → Type 0
@@ -239,19 +240,43 @@ knows_bundle key =
     || bytes_eq key (codes "skipDynamicDeps") || bytes_eq key (codes "imports") || bytes_eq key (codes "modules")
     || bytes_eq key (codes "arrival") || bytes_eq key (codes "importMap")
 
--- the bundle that an object with these members says
-abbrev pub bundle_from : Data → Members → Reading Bundle
-bundle_from value members =
+-- the bundle that an object with these members says, of whose keys these are known
+abbrev pub bundle_from_by : (List ℕ → Bool) → Data → Members → Reading Bundle
+bundle_from_by knows value members =
     and_then (λ given. and_then (λ wanted. and_then (λ told. and_then (λ order. and_then (λ mapped. and_then (λ done.
     Ok (record { roots = given; options = wanted; modules = told; arrival = order; import_map = mapped }))
-    (only knows_bundle members))
+    (only knows members))
     (optional some_import_map None (codes "importMap") value))
     (optional (each_of arrival_of) [] (codes "arrival") value))
     (required modules_of (codes "modules") value))
     (options_of value))
     (required (each_of url_of) (codes "roots") value)
 
+abbrev pub bundle_from : Data → Members → Reading Bundle
+bundle_from value members = bundle_from_by knows_bundle value members
+
 -- the bundle that a JSON value says: its roots, its options, its modules, of which no two have one specifier, the order in which
 -- they come, and its import map
 unfoldable pub bundle_of : Data → Reading Bundle
 bundle_of value = and_then (bundle_from value) (object_of value)
+
+-- ---- bundles with choices
+
+-- the keys of a bundle, and one more
+abbrev pub knows_chosen : List ℕ → Bool
+knows_chosen key = knows_bundle key || bytes_eq key (codes "jsonWithoutAttribute")
+
+-- the bundle that an object with these members says, of whose keys these are known, and whether an import without an attribute
+-- may be of JSON
+abbrev pub chosen_from_by : (List ℕ → Bool) → Data → Members → Reading ChosenBundle
+chosen_from_by knows value members =
+    and_then (λ allowed. and_then (λ bundle. Ok (record { bundle = bundle; json_without_attribute = allowed }))
+    (bundle_from_by knows value members))
+    (optional bool_of false (codes "jsonWithoutAttribute") value)
+
+abbrev pub chosen_from : Data → Members → Reading ChosenBundle
+chosen_from value members = chosen_from_by knows_chosen value members
+
+-- the bundle with choices that a JSON value says
+unfoldable pub chosen_of : Data → Reading ChosenBundle
+chosen_of value = and_then (chosen_from value) (object_of value)

@@ -3,7 +3,7 @@ ghost use Rattle.std.specs.Prelude.{◌≡◌, ℕ, List, IfOk, Err, Ok};
 ghost use Rattle.serde_json.specs.Data.{Data};
 ghost use Rattle.serde_json.specs.Errors.{IsMemory};
 ghost use Rattle.serde_json.specs.View.{view, members_view};
-ghost use Rattle.graph_bundle.specs.Bundle.{IsJson, bundle_of, bundle_from};
+ghost use Rattle.graph_bundle.specs.Bundle.{IsJson, bundle_of, bundle_from_by};
 ghost use Rattle.graph_bundle.specs.Bundle as spec;
 
 use crate::mapped::import_map_at;
@@ -73,7 +73,7 @@ pub fn take_bundle(alloc: Global, bytes: Vec<u8>) -> Result<Bundle, BundleFault>
 }
 
 /// Why a text was not read.
-fn fault_of(error: &serde_json::Error) -> BundleFault
+pub fn fault_of(error: &serde_json::Error) -> BundleFault
     ensures not_json { result ≡ BundleFault.NotJson → ¬ IsMemory error.now }
     ensures no_pointer { (at : List ℕ) → ¬ (result ≡ BundleFault.Pointer at) }
 {
@@ -102,18 +102,18 @@ fn bundle_in(alloc: Global, value: &Value) -> Result<Reading<Bundle>, AllocError
     ensures { IfOk result (λ b. b ≡ bundle_of (view value.now)) }
 {
     match value.as_object() {
-        Some(members) => bundle_with(alloc, value, members),
+        Some(members) => bundle_with::<BundleKeys>(alloc, value, members),
         None => Ok(Err(Text::new(alloc))),
     }
 }
 
-/// The bundle that an object with these members says.
-fn bundle_with(
+/// The bundle that an object with these members says, which has no key but `K`'s.
+pub fn bundle_with<K: Keys>(
     alloc: Global,
     value: &Value,
     members: &Map<String, Value>,
 ) -> Result<Reading<Bundle>, AllocError>
-    ensures { IfOk result (λ b. b ≡ bundle_from (view value.now) (members_view members.now.entries)) }
+    ensures { IfOk result (λ b. b ≡ bundle_from_by K.knows (view value.now) (members_view members.now.entries)) }
 {
     let roots = match required(alloc, value, "roots")? {
         Ok(roots) => roots,
@@ -135,7 +135,7 @@ fn bundle_with(
         Ok(import_map) => import_map,
         Err(at) => return Ok(Err(at)),
     };
-    match only::<BundleKeys>(alloc, members)? {
+    match only::<K>(alloc, members)? {
         Ok(()) => Ok(Ok(Bundle {
             roots,
             options,
@@ -148,7 +148,7 @@ fn bundle_with(
 }
 
 /// The keys of a bundle.
-struct BundleKeys;
+pub struct BundleKeys;
 
 impl Keys for BundleKeys {
     ghost knows = { spec.knows_bundle };

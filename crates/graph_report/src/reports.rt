@@ -135,8 +135,9 @@ pub fn edges(entry: &Entry) -> &[Dependency]
     }
 }
 
+/// Writes what an entry is.
 #[tactic(auto, unfolding(graph_entry::specs::Specifier::text_of))]
-fn add_state(alloc: Global, out: &mut String, entry: &Entry) -> Result<(), AllocError>
+pub fn add_state(alloc: Global, out: &mut String, entry: &Entry) -> Result<(), AllocError>
     ensures { OnOk result (Adds out.old out.new (state entry.now)) }
 {
     match entry {
@@ -221,8 +222,9 @@ fn add_edge(alloc: Global, out: &mut String, edge: &Dependency) -> Result<(), Al
     out.push_str("\n")
 }
 
+/// Writes an edge: its kind, where its literal is, its text, its attribute, and its target or fault.
 #[tactic(auto, unfolding(crate::specs::Report::edge_words))]
-fn add_edge_words(alloc: Global, out: &mut String, edge: &Dependency) -> Result<(), AllocError>
+pub fn add_edge_words(alloc: Global, out: &mut String, edge: &Dependency) -> Result<(), AllocError>
     ensures { OnOk result (Adds out.old out.new (edge_words edge.now)) }
 {
     out.push_str(kind_name(edge.kind, edge.type_only))?;
@@ -236,7 +238,8 @@ fn add_edge_words(alloc: Global, out: &mut String, edge: &Dependency) -> Result<
     add_outcome(out, &edge.resolution)
 }
 
-fn kind_name(kind: DependencyKind, type_only: bool) -> &'static str
+/// The word for a kind of edge.
+pub fn kind_name(kind: DependencyKind, type_only: bool) -> &'static str
     ensures { result.now ≡ kind_word kind type_only }
 {
     match (kind, type_only) {
@@ -308,6 +311,7 @@ fn add_count(out: &mut String, count: usize) -> Result<(), AllocError>
     out.push_str("\n")
 }
 
+/// Writes a number in decimal.
 pub fn add_number(out: &mut String, n: usize) -> Result<(), AllocError>
     ensures { OnOk result (Adds out.old out.new (decimal n)) }
 {

@@ -96,7 +96,7 @@ stays_told (Some m) (Some n) there kept = refl
 -- ---- the builder of a bundle
 
 -- a new loader in memory is fresh, where no answer is forced
-new_fresh : (modules : List (Parts × LoadAnswer)) (arrival : List Arrival) → list_any is_forced arrival ≡ false
+pub new_fresh : (modules : List (Parts × LoadAnswer)) (arrival : List Arrival) → list_any is_forced arrival ≡ false
     → IsFresh (data_of (new_memory modules arrival))
 new_fresh modules arrival unforced = record { events = refl; patient = refl; fair = ap not unforced }
 

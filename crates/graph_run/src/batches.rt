@@ -71,7 +71,7 @@ pub fn build_batched<R: Threads + Sync>(
 }
 
 /// Polls by batches until there is another answer than `NotYet`.
-fn poll_batches<R: Threads + Sync>(
+pub fn poll_batches<R: Threads + Sync>(
     rt: &R,
     build: &mut BundleBuild,
     batch: usize,

@@ -5,6 +5,7 @@
 //! - `due_for`: what is due for the bytes of an input: a status, and the report or the line of a refusal (`IsDue`). It starts
 //!   no thread; `run` has the analyses of a batch run in threads.
 //! - `read_once`, `build_batched`, `due_for_fault`: its steps, for what reports something else of a graph, such as `vendor_run`.
+//! - `new_build`, `poll_batches`: a builder of a bundle's graph, and polling it to its end, for what changes the builder first.
 //! - `report`, `summary`: the text of a graph, its counts: those of `graph_report`.
 //! - `read_all`, `write_all`, `Source`, `Sink` and those in memory: what gives and takes bytes, that of `counted_io`.
 //!
@@ -18,7 +19,7 @@ mod status;
 mod verdict;
 pub mod words;
 
-pub use batches::{build_batched, read_once};
+pub use batches::{build_batched, poll_batches, read_once};
 pub use counted_io::{
     Failed, Faults, INPUT_LIMIT, MemorySink, MemorySource, ReadError, Sink, Source, read_all,
     write_all,
@@ -26,4 +27,4 @@ pub use counted_io::{
 pub use graph_report::{report, summary};
 pub use program::run;
 pub use status::Status;
-pub use verdict::{Due, due_for, due_for_fault, refusal};
+pub use verdict::{BundleBuild, Due, due_for, due_for_fault, new_build, refusal};

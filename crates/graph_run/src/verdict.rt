@@ -8,7 +8,7 @@ ghost use Rattle.graph_builder.specs.Builder.{new_building, new_building_by, sta
 ghost use Rattle.counted_io.specs.Transfer.{input_limit};
 ghost use Rattle.graph_run.specs.Telling.{told_by};
 ghost use Rattle.graph_run.specs.Run.{IsDue, IsGraphOf, bundle_rules, bundle_starts, no_bundle_line, too_many_line};
-ghost use Rattle.graph_run.specs.Steps.{OfFault, IsEnd, OfEnd, IsNew, IsUnforced, SaysLarge, mapped_ways, mapped_resolves, bundle_ways, built_rules, built_resolves};
+ghost use Rattle.graph_run.specs.Steps.{OfFault, IsEnd, OfEnd, IsFresh, IsNew, IsUnforced, SaysLarge, mapped_ways, mapped_resolves, bundle_ways, built_rules, built_resolves};
 
 use crate::resolver::BundleResolver;
 use crate::status::Status;
@@ -158,6 +158,7 @@ pub fn new_build(alloc: Global, bundle: Bundle) -> Result<BundleBuild, BuildErro
     ensures starts { IfOk result (λ build. starts build.inner ≡ bundle_starts bundle) }
     ensures limit { IfOk result (λ build. build.inner.limit ≡ bundle.options.limit) }
     ensures modules { IfOk result (λ build. build.inner.loader.modules ≡ bundle.modules) }
+    ensures fresh { IfOk result (λ build. IsFresh (data_of build.inner.loader)) }
     ensures refused { IfErr result (λ e. e ≡ BuildError.OutOfMemory) }
 {
     let Bundle {

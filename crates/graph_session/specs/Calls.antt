@@ -17,10 +17,10 @@ use Rattle.graph_entry.specs.Specifier.{text_of}
 use Rattle.graph_builder.specs.declared.error.BuildError.{BuildError}
 use Rattle.graph_builder.specs.declared.error.BuildError.TheVariants as error
 use Rattle.graph_builder.specs.Graph.{GraphData, entry_of}
-use Rattle.graph_bundle.specs.declared.bundle.Bundle.{Bundle}
 use Rattle.graph_bundle.specs.declared.bundle.BundleFault.{BundleFault}
 use Rattle.graph_bundle.specs.declared.bundle.BundleFault.TheVariants as fault
-use Rattle.graph_bundle.specs.Bundle.{IsJson, bundle_of}
+use Rattle.graph_bundle.specs.declared.chosen.ChosenBundle.{ChosenBundle}
+use Rattle.graph_bundle.specs.Bundle.{IsJson, chosen_of}
 use Rattle.graph_session.specs.declared.loader.Given.{Given}
 use Rattle.graph_session.specs.declared.loader.Given.TheVariants as given
 use Rattle.graph_session.specs.declared.session.Session.{Session}
@@ -40,15 +40,17 @@ after false items room = room
 
 -- ---- a new session
 
--- it is that of the bundle that the settings say
+-- it is that of the bundle with choices that the settings say
 abbrev pub IsNewBy : {M : Type 0} → List ℕ → M → Session M → Type 0
-IsNewBy settings reader session = (value : Data) × (bundle : Bundle) × IsJson settings value × (bundle_of value ≡ Ok bundle)
-    × (session ≡ new_session bundle.roots bundle.options bundle.import_map reader)
+IsNewBy settings reader session = (value : Data) × (chosen : ChosenBundle) × IsJson settings value
+    × (chosen_of value ≡ Ok chosen)
+    × (session ≡ new_session chosen.bundle.roots chosen.bundle.options chosen.json_without_attribute
+    chosen.bundle.import_map reader)
 
 -- the settings are no JSON, or say no bundle
 abbrev pub IsRefused : List ℕ → BundleFault → Type 0
 IsRefused settings fault.NotJson = (value : Data) → ¬ IsJson settings value
-IsRefused settings (fault.Pointer at) = (value : Data) × IsJson settings value × (bundle_of value ≡ Err at)
+IsRefused settings (fault.Pointer at) = (value : Data) × IsJson settings value × (chosen_of value ≡ Err at)
 IsRefused settings fault.OutOfMemory = Unit {0}
 
 -- ---- a poll

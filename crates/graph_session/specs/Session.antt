@@ -1,5 +1,5 @@
 -- A graph under construction by calls: what each call does to it.
-use Rattle.std.specs.Prelude.{◌≡◌, ◌↔◌, ℕ, ◌+◌, ◌≤◌, true, false, List, [], length, map, slice_get, Option, Some, None, IsSome, Result, Ok, Err}
+use Rattle.std.specs.Prelude.{◌≡◌, ◌↔◌, ℕ, ◌+◌, ◌≤◌, Bool, true, false, List, [], length, map, slice_get, Option, Some, None, IsSome, Result, Ok, Err}
 use Rattle.std.specs.Result.{result_ok}
 use Rattle.url.specs.Parts.{Parts}
 use Rattle.graph_entry.specs.declared.answer.LoadAnswer.{LoadAnswer}
@@ -18,7 +18,7 @@ use Rattle.graph_builder.specs.declared.own.Own.{Own}
 use Rattle.graph_builder.specs.Rules.{Rules, rules_by}
 use Rattle.graph_builder.specs.Reach.{Specifier, answer_to}
 use Rattle.graph_builder.specs.Graph.{GraphData, IsGraph, texts, different}
-use Rattle.graph_builder.specs.Builder.{BuildingBy, new_building_by, starts, following_of, GoesOn, HasHistory, IsNotYet, IsTooMany, IsAskedFor, EachAnswered, IsOrderly}
+use Rattle.graph_builder.specs.Builder.{BuildingBy, new_building_by, starts, following_of, json_allowed, GoesOn, HasHistory, IsNotYet, IsTooMany, IsAskedFor, EachAnswered, IsOrderly}
 use Rattle.graph_builder.specs.Events.{asked_of, log_of}
 use Rattle.graph_builder.specs.Loader.{last_count}
 use Rattle.graph_session.specs.declared.resolver.MapResolver.{MapResolver}
@@ -33,9 +33,12 @@ SessionWays M = Own MapResolver M
 abbrev pub SessionBuild : Type 0 → Type 0
 SessionBuild M = BuildingBy Asking (SessionWays M)
 
-abbrev pub ways_with : {M : Type 0} → BuildOptions → Option MapData → M → SessionWays M
-ways_with options map reader =
-    record { following = following_of options; resolver = record { map = map }; analyzer = reader }
+abbrev pub ways_with : {M : Type 0} → BuildOptions → Bool → Option MapData → M → SessionWays M
+ways_with options is_allowed map reader = record {
+  following = json_allowed is_allowed (following_of options);
+  resolver = record { map = map };
+  analyzer = reader;
+}
 
 -- what a text resolves to by the map, if there is one
 abbrev pub resolving_by : {M : Type 0} → SessionWays M → List ℕ → Parts → Resolving
@@ -50,11 +53,11 @@ rules_with reads ways = rules_by (AnalysedBy (ways_by (resolving_by ways) (reads
 
 -- ---- a new session
 
--- nothing is asked yet
-abbrev pub new_session : {M : Type 0} → List Parts → BuildOptions → Option MapData → M → Session M
-new_session roots options map reader = record {
-  build = new_building_by (ways_with options map reader) (resolves_by (ways_with options map reader)) roots options.imports
-      options.limit new_asking (data_of new_asking);
+-- nothing is asked yet; an import without an attribute may be of JSON, or may not
+abbrev pub new_session : {M : Type 0} → List Parts → BuildOptions → Bool → Option MapData → M → Session M
+new_session roots options is_allowed map reader = record {
+  build = new_building_by (ways_with options is_allowed map reader) (resolves_by (ways_with options is_allowed map reader))
+      roots options.imports options.limit new_asking (data_of new_asking);
   graph = None;
 }
 

@@ -9,7 +9,7 @@ use crate::records::{EdgeRecord, EntryRecord, LaidEntry, NO_MEDIA_TYPE, NONE, la
 use crate::session::Session;
 use base::SharedBytes;
 use graph_builder::{BuildError, ModuleGraph};
-use graph_bundle::{Bundle, BundleFault, read_bundle};
+use graph_bundle::{Bundle, BundleFault, ChosenBundle, read_chosen};
 use graph_entry::{Entry, Headers, LoadAnswer, Module, ModuleAnalyzer};
 use source_text::{LineAndColumnDisplay, SourceText, SourceTextInfo};
 use std::alloc::{AllocError, Global};
@@ -61,7 +61,7 @@ pub struct PlaceRecord {
     pub column: usize,
 }
 
-/// A session of a bundle's roots, options and import map; its modules are left to whoever answers.
+/// A session of the roots, options, choice and import map of a bundle with choices; its modules are left to whoever answers.
 pub fn new_by_settings<M: ModuleAnalyzer + Drop>(
     alloc: Global,
     settings: &[u8],
@@ -70,14 +70,26 @@ pub fn new_by_settings<M: ModuleAnalyzer + Drop>(
     ensures new { IfOk result (spec.IsNewBy settings.now analyzer) }
     ensures refused { IfErr result (spec.IsRefused settings.now) }
 {
+    let ChosenBundle {
+        bundle,
+        json_without_attribute,
+    } = read_chosen(alloc, settings)?;
     let Bundle {
         roots,
         options,
         modules: _,
         arrival: _,
         import_map,
-    } = read_bundle(alloc, settings)?;
-    match Session::new(alloc, roots, options, import_map, analyzer) {
+    } = bundle;
+    let begun = Session::new(
+        alloc,
+        roots,
+        options,
+        json_without_attribute,
+        import_map,
+        analyzer,
+    );
+    match begun {
         Ok(session) => Ok(session),
         Err(_) => Err(BundleFault::OutOfMemory),
     }

@@ -24,15 +24,16 @@ pub struct Session<M: ModuleAnalyzer + Drop> {
 }
 
 impl<M: ModuleAnalyzer + Drop> Session<M> {
-    /// Nothing is asked yet.
+    /// Nothing is asked yet. By choice an import without an attribute may be of JSON.
     pub fn new(
         alloc: Global,
         roots: Items<Url>,
         options: BuildOptions,
+        json_without_attribute: bool,
         map: Option<ImportMap>,
         analyzer: M,
     ) -> Result<Session<M>, AllocError>
-        ensures { IfOk result (λ s. s ≡ new_session roots options map analyzer) }
+        ensures { IfOk result (λ s. s ≡ new_session roots options json_without_attribute map analyzer) }
     {
         let BuildOptions {
             kind,
@@ -44,7 +45,7 @@ impl<M: ModuleAnalyzer + Drop> Session<M> {
             following: Following {
                 kind,
                 skip_dynamic_deps,
-                json_without_attribute: false,
+                json_without_attribute,
             },
             resolver: MapResolver { map },
             analyzer,

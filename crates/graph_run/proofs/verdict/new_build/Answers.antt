@@ -3,8 +3,8 @@ use Rattle.std.proofs.Common.{ap, sym, subst}
 use Rattle.import_map.proofs.json_reading_lemmas.ReadingLemmas.{IfOk-map}
 use Rattle.graph_builder.specs.Builder.{BuildingBy}
 use Rattle.graph_builder.specs.Memory.{Memory, data_of}
-use Rattle.graph_run.specs.Steps.{BundleWays, IsNew}
-use Rattle.graph_run.proofs.GraphLemmas.{building_new, mapped_is}
+use Rattle.graph_run.specs.Steps.{BundleWays, IsFresh, IsNew}
+use Rattle.graph_run.proofs.GraphLemmas.{building_new, mapped_is, new_fresh}
 use Rattle.graph_run.proofs.verdict.new_build.Goals as goal
 
 pub returns-clause-new : goal.returns-clause-new
@@ -54,4 +54,11 @@ returns-clause-modules c = IfOk-map c.mapped_build.result _ _
     (λ b e. ap (λ (x : BuildingBy Memory BundleWays). x.loader.modules)
     (mapped_is c.args.bundle c.numbered-loader.result
     c.in_ok-build.build.inner b.inner c.numbered-loader.ensures c.in_ok-build.ensures.new e))
+    c.mapped_build.ensures.new
+
+pub returns-clause-fresh : goal.returns-clause-fresh
+returns-clause-fresh c = IfOk-map c.mapped_build.result _ _
+    (λ b e. subst (λ (x : BuildingBy Memory BundleWays). IsFresh (data_of x.loader))
+    (sym (mapped_is c.args.bundle c.numbered-loader.result c.in_ok-build.build.inner b.inner c.numbered-loader.ensures
+    c.in_ok-build.ensures.new e)) (new_fresh c.args.bundle.modules c.args.bundle.arrival c.requires))
     c.mapped_build.ensures.new
