@@ -62,7 +62,7 @@ fn chosen_or_fault(alloc: Global, value: &Value) -> Result<ChosenBundle, BundleF
 
 /// The bundle with its choices that a value says.
 #[tactic(auto, unfolding(crate::specs::Bundle::chosen_of))]
-fn chosen_in(alloc: Global, value: &Value) -> Result<Reading<ChosenBundle>, AllocError>
+pub fn chosen_in(alloc: Global, value: &Value) -> Result<Reading<ChosenBundle>, AllocError>
     ensures { IfOk result (λ b. b ≡ chosen_of (view value.now)) }
 {
     match value.as_object() {

@@ -4,7 +4,7 @@
 //!   (`IsJson`, `bundle_of`, `specs/Bundle.antt`).
 //! - `take_bundle`: the same of bytes that are given back as soon as they are read.
 //! - `read_chosen`, `take_chosen`: the same of a bundle with choices, whose object may have a further key (`chosen_of`).
-//! - `chosen_with`, `ChosenKeys`, `Keys`, `Part`, `required`, `optional`, `only`, `fault_of`: what reads it, for objects
+//! - `chosen_in`, `chosen_with`, `ChosenKeys`, `Keys`, `Part`, `required`, `optional`, `only`, `fault_of`: what reads it, for objects
 //!   that say more.
 //! - `Bundle`: its roots, what is built of them, its modules with their answers, the order in which they come,
 //!   and its import map.
@@ -23,6 +23,6 @@ mod options;
 mod part;
 
 pub use bundle::{Bundle, BundleFault, fault_of, read_bundle, take_bundle};
-pub use chosen::{ChosenBundle, ChosenKeys, chosen_with, read_chosen, take_chosen};
+pub use chosen::{ChosenBundle, ChosenKeys, chosen_in, chosen_with, read_chosen, take_chosen};
 pub use members::{Keys, only, optional, required};
 pub use part::Part;
