@@ -4,8 +4,8 @@
 //!   (`IsJson`, `bundle_of`, `specs/Bundle.antt`).
 //! - `take_bundle`: the same of bytes that are given back as soon as they are read.
 //! - `read_chosen`, `take_chosen`: the same of a bundle with choices, whose object may have a further key (`chosen_of`).
-//! - `chosen_in`, `chosen_with`, `ChosenKeys`, `Keys`, `Part`, `required`, `optional`, `only`, `fault_of`: what reads it, for objects
-//!   that say more.
+//! - `chosen_in`, `chosen_with`, `ChosenKeys`, `Keys`, `Part`, `required`, `optional`, `only`, `fault_of`: what reads it,
+//!   for objects that say more.
 //! - `Bundle`: its roots, what is built of them, its modules with their answers, the order in which they come,
 //!   and its import map.
 //!
