@@ -47,6 +47,7 @@ class Run:
         packer, roots = self.packed()
         self.front = front_of(asked.folder)
         self.reasons = packer.reasons
+        asked.files = [os.path.join(asked.folder, place) for place in sorted(packer.taken)]
         packer.tell()
         if packer.reader.reads_ahead:
             data = packer.bundle(roots).encode()

@@ -100,6 +100,37 @@ class Same(Loader):
                 self.assertEqual(one.read(), other.read())
 
 
+class Watch(Loader):
+    # What is written (None: gone), what is then said to have changed, and the verdict.
+    STEPS = (("src/b.ts", "import './c'", "src/b.ts has changed", "1 fault; status 1"), ("src/c.ts", "import", "src has changed", "1 fault; status 1"),
+             ("src/c.ts", "", "src/c.ts has changed", "no faults; status 0"), ("src/b.ts", None, "src/b.ts has changed", "1 fault; status 1"))
+
+    def test_runs_again_where_a_file_comes_changes_or_goes(self):
+        for loader in ("library", "program"):
+            with self.subTest(loader):
+                self.put({"src/a.ts": "import './b'", "src/b.ts": ""})
+                watching = subprocess.Popen([JORAVELSU, "check", "--watch", "--loader", loader, "src/a.ts"], stdout=subprocess.PIPE, stderr=subprocess.PIPE, text=True,
+                                            cwd=self.room, env={**os.environ, "JORAVELSU_QUIET": "1"})
+                self.addCleanup(watching.communicate)
+                self.addCleanup(watching.kill)
+                self.assertEqual(self.verdict(watching), "no faults; status 0")
+                for path, text, changed, verdict in self.STEPS:
+                    if text is None:
+                        os.remove(os.path.join(self.room, path))
+                    else:
+                        self.put({path: text})
+                    self.assertEqual((watching.stderr.readline(), self.verdict(watching)), (f"joravelsu: {changed}\n", verdict))
+                watching.terminate()
+                self.assertEqual((watching.wait(), watching.stderr.readline()), (130, "joravelsu: stopped\n"))
+                os.remove(os.path.join(self.room, "src", "c.ts"))
+
+    def verdict(self, watching):
+        """What one run ends with; after it all is watched."""
+        found = next(line.strip() for line in watching.stdout if "; status " in line)
+        self.assertRegex(watching.stderr.readline(), "^joravelsu: [123] files? (is|are) watched\n$")
+        return found
+
+
 class Library(Loader):
     def test_more_than_the_program_reads(self):
         for name, count in (("a.js", 9_000_000), ("b.js", 17_000_000)):
