@@ -26,5 +26,6 @@ pub use counted_io::{
 };
 pub use graph_report::{report, summary};
 pub use program::run;
+pub use resolver::BundleResolver;
 pub use status::Status;
-pub use verdict::{BundleBuild, Due, due_for, due_for_fault, new_build, refusal};
+pub use verdict::{BundleBuild, Due, due_for, due_for_fault, is_not_yet, new_build, refusal};
