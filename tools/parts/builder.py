@@ -11,7 +11,7 @@ from parts.words import MOST_BYTES, Wrong
 
 # The media types by which texts are read, by the ending of the name.
 MEDIA_TYPES = {".d.ts": 0, ".d.mts": 1, ".d.cts": 2, ".ts": 3, ".mts": 4, ".cts": 5, ".tsx": 6, ".js": 7, ".mjs": 8, ".cjs": 9, ".jsx": 10}
-NOT_A_PROGRAM = (10, 11)
+NO_TOKEN, NO_PROGRAM = NOT_A_PROGRAM = (10, 11)
 # So many bytes are read in a few hundredths of a second.
 FEW_BYTES = 1_000_000
 TYPED = ("import", "export", "import-equals")
@@ -187,11 +187,21 @@ class Library:
         return [self.is_read(text.encode("utf-8", "surrogatepass"), media_type) for text in texts]
 
     def is_read(self, data, media_type):
+        return self.fault_of(data, media_type) is None
+
+    def fault_of(self, data, media_type):
+        """Why a text is no program, or None."""
         try:
             self.api.imports_of(data, media_type)
         except self.api.SourceError as error:
-            return error.status not in NOT_A_PROGRAM
-        return True
+            return error if error.status in NOT_A_PROGRAM else None
+        return None
+
+    def stop_of(self, specifier, text):
+        """The character, from 0, of the token at which reading stops; None where a part of the text is no token."""
+        data = text.encode("utf-8", "surrogatepass")
+        fault = self.fault_of(data, MEDIA_TYPES.get(sites.ending_of(specifier) or ".js"))
+        return len(data[:fault.place].decode("utf-8", "surrogatepass")) if fault and fault.status == NO_PROGRAM else None
 
 
 def site_of(edge):

@@ -43,8 +43,8 @@ def word_of(entry):
     return WORDS.get(entry.fault().split(" ")[0], "other")
 
 
-def of_graph(graph, bundle, are_read, reasons=None):
-    """Each fault, by the order of the modules in which they are told; are_read asks which texts are programs. reasons has
+def of_graph(graph, bundle, program, reasons=None):
+    """Each fault, by the order of the modules in which they are told; the program says which texts are read. reasons has
     for URLs and bare specifiers why they lead nowhere, as far as that is known."""
     reasons = reasons or {}
     for specifier in graph.roots:
@@ -53,7 +53,7 @@ def of_graph(graph, bundle, are_read, reasons=None):
             yield Fault(entry.fault() if entry else "Missing", specifier, None, None, "a root: " + said_of_entry(entry))
     for entry in graph.entries.values():
         if entry.is_faulty() and is_in_itself(entry):
-            yield in_itself(entry, bundle, are_read)
+            yield in_itself(entry, bundle, program)
         for edge in entry.edges:
             fault = of_edge(graph, entry, edge, reasons)
             if fault:
@@ -112,7 +112,7 @@ def of_edge(graph, entry, edge, reasons):
     return Fault(target.fault().split(" ")[0], entry.specifier, start, end, f"{text}: {said_of_entry(target)}{leads}")
 
 
-def in_itself(entry, bundle, are_read):
+def in_itself(entry, bundle, program):
     """The fault of a module whose own text is refused, with its place."""
     name = entry.fault().split(" ")[0]
     source = bundle.source(entry.specifier)
@@ -121,10 +121,11 @@ def in_itself(entry, bundle, are_read):
     if name == "Decode":
         return at_byte_no_utf8(entry, source)
     text, named = source.text(), named_as(entry.specifier)
-    if len(text) > MOST_SEARCHED:
+    stop = program.stop_of(named, text) if program else None
+    if stop is None and len(text) > MOST_SEARCHED:
         return Fault(name, entry.specifier, None, None, f"its text isn't a program; above {MOST_SEARCHED:,} characters the place isn't looked for")
-    with told_on_a_terminal(f"looking for the place of the fault in {shown(entry.specifier)}" if len(text) >= LONG else None):
-        start, length, what = places.fault_of(text, named, lambda texts: are_read(named, texts))
+    with told_on_a_terminal(f"looking for the place of the fault in {shown(entry.specifier)}" if stop is None and len(text) >= LONG else None):
+        start, length, what = places.fault_of(text, named, lambda texts: program.which_are_read(named, texts), stop)
     first = places.scan.bytes_before(text, start)
     return Fault(name, entry.specifier, first, first + places.scan.bytes_before(text[start:], length), what)
 

@@ -144,7 +144,7 @@ class Imports:
             return None
         if not faults.is_in_itself(self.entry):
             return faults.Fault(self.entry.fault(), self.specifier, None, None, faults.said_of_entry(self.entry))
-        return faults.in_itself(self.entry, self.bundle, self.program.which_are_read)
+        return faults.in_itself(self.entry, self.bundle, self.program)
 
     def lines(self):
         fault, source = self.fault(), self.bundle.source(self.specifier)

@@ -1,9 +1,12 @@
-"""Where a text stops being a program, and why: found by asking the program which parts of the text it reads.
+"""Where a text stops being a program, and why.
 
-The report says that a text is no program, and not where. So the text is cut off behind one token after the other, at
-brackets that stand within each other from the outside to the inside, and each cut is closed by something simple. The
-place is the first token behind the longest cut that is read.
+The library tells the token at which reading stops, which in an assignment to no target is the target's first. Elsewhere
+and without it, the program is asked which parts of the text it reads: the text is cut off behind one token after the
+other, at brackets that stand within each other from the outside to the inside, and each cut is closed by something
+simple. The place is the first token behind the longest cut that is read.
 """
+import bisect
+
 from parts import scan
 
 # What may close a text that was cut off.
@@ -17,6 +20,9 @@ INSIDE = ("", "x", ";;", "x of x")
 MOST_SHELLS = 3  # of which each is tried
 # Words with which a statement goes on behind a }.
 GOES_ON = frozenset("else catch finally while in instanceof of as satisfies from extends implements".split())
+# How far it is looked for what tells that reading may go on where it stopped.
+MOST_LOOKED = 60
+ASSIGNS = ("=", "=>", "++", "--", "+=", "-=", "*=", "/=", "%=", "**=", "<<=", ">>=", ">>>=", "&=", "|=", "^=", "&&=", "||=", "??=")
 MOST_ASKED = 6_000_000  # bytes of all texts of one question
 MOST_ROUNDS = 200
 DEEP = 90  # brackets within each other, from which the depth of 500 nodes is likely the reason
@@ -167,6 +173,28 @@ class Search:
             number = mate + 1 if mate is not None and number < mate <= last else number + 1
         return found + [last]
 
+    def stopped(self, stop):
+        """The number of the token at which reading stopped, or None where it may go on there: before an assignment, and behind a
+        type in front of an expression."""
+        number = bisect.bisect_left([token.start for token in self.tokens], stop)
+        return None if self.may_be_assigned(number) or self.is_behind_type(number) else number
+
+    def may_be_assigned(self, number):
+        """Whether a token may begin what is assigned to."""
+        at, last = number, min(len(self.tokens), number + MOST_LOOKED)
+        if at < last and self.tokens[at].kind == "sign" and self.tokens[at].mate is None:
+            return False
+        while at < last and not self.tokens[at].is_sign(";", ")", "]", "}"):
+            token = self.tokens[at]
+            if token.is_sign(*ASSIGNS) or token.is_word("of", "in"):
+                return True
+            at = token.mate + 1 if token.mate is not None and token.mate > at else at + 1
+        return False
+
+    def is_behind_type(self, number):
+        before = self.tokens[max(0, number - MOST_LOOKED):number + 1]
+        return any(token.is_sign("<") and not token.was_operand for token in before)
+
     def start_of(self, number):
         return self.tokens[number].start if number < len(self.tokens) else len(self.text)
 
@@ -276,8 +304,9 @@ def shortened(text, most=30):
     return text if len(text) <= most else text[:most - 2] + ".."
 
 
-def fault_of(text, specifier, are_read):
-    """The place (a character, from 0) where a text stops being a program, how many characters it has, and a sentence."""
+def fault_of(text, specifier, are_read, stop=None):
+    """The place (a character, from 0) where a text stops being a program, how many characters it has, and a sentence. stop is
+    the character of the token at which reading stops, where that is known."""
     search = Search(text, are_read)
     fault = search.scan.fault
     if fault:
@@ -287,7 +316,9 @@ def fault_of(text, specifier, are_read):
             return token.start, 1, f"JSX, {LEFT_OUT}"
         what, at = fault
         return at, 1, LEXICAL[what]
-    number = search.place()
+    number = None if stop is None else search.stopped(stop)
+    if number is None:
+        number = search.place()
     token = search.tokens[number] if number < len(search.tokens) else None
     reason = reason_at(search, number, specifier)
     if token is None:

@@ -57,6 +57,12 @@ class Program:
         return [f"{name} error Parse" not in refused for name in names]
 
 
+    @staticmethod
+    def stop_of(_specifier, _text):
+        """Where a text stops being a program, as far as it is told: the program doesn't tell."""
+        return None
+
+
 def main():
     """Prints the path of the program."""
     try:

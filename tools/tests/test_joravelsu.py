@@ -293,7 +293,7 @@ class Options(unittest.TestCase):
         for key, row in whole["properties"].items():
             word = re.match(r"--[a-z-]+", row.get("description", ""))
             self.assertTrue(key in ("$schema", "roots") or word[0] in options, key)
-        not_there = {"--help", "--version", "--config", "--json", "--sarif", "--github", "--no-cache", "--check-cache", "--loader"}
+        not_there = {"--watch", "--help", "--version", "--config", "--json", "--sarif", "--github", "--no-cache", "--check-cache", "--loader"}
         told = {re.match(r"--[a-z-]+", row["description"])[0] for row in whole["properties"].values() if row.get("description", "").startswith("--")}
         self.assertEqual({word for word in options if word.startswith("--")} - not_there, told)
 
