@@ -25,7 +25,7 @@ class Verdict:
     def __init__(self, run, summary, found, rows, fail_on):
         """run: the run; summary: its counts; found: its faults; rows: what is unread; fail_on: words of --fail-on."""
         self.run, self.summary, self.faults, self.rows, self.fail_on = run, summary, found, rows, fail_on
-        self.words = summary.what_is_there()
+        self.words = summary.what_is_there() | ({"unread"} if rows else set())
         self.status = 1 if self.words & set(fail_on) else 0
 
     def line(self):
@@ -43,7 +43,7 @@ class Verdict:
         for row in self.rows:
             specifier, line, column, word, argument, own = row
             hint = ", unless it is a require of the file itself" if own else ""
-            yield Found("warning", "unread", f"{word}({argument}) gives no edge{hint}", specifier, None, None, (line, column), row)
+            yield Found("error" if "unread" in self.fail_on else "warning", "unread", f"{word}({argument}) gives no edge{hint}", specifier, None, None, (line, column), row)
         for part in self.summary.cycles:
             level = "error" if "cycle" in self.fail_on else "warning"
             yield Found(level, "cycle", self.summary.cycle(part), part[0].specifier, None, None, None, part)

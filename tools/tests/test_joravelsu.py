@@ -45,6 +45,13 @@ class Check(unittest.TestCase):
         for fault in value["faults"]:
             self.assertIn(f"{fault['file']}:{fault['line']}:{fault['column']}: {fault['message']}\n", text)
 
+    def test_calls_that_no_graph_shows(self):
+        for module, status in (("main.ts", 1), ("pages/home.ts", 0)):
+            done, out, _ = ran("check", "--json", "--fail-on", "unread", os.path.join(os.path.dirname(DEMO), module))
+            value = json.loads(out)
+            self.assertEqual((done, "unread" in value["found"], bool(value["unread"])), (status, bool(status), bool(status)))
+        self.assertEqual(ran("graph", "--fail-on", "unread", DEMO)[0], 64)
+
     def test_sarif(self):
         run = json.loads(ran("check", "--sarif", "--fail-on", "cycle", DEMO)[1])
         self.assertEqual((run["version"], len(run["runs"])), ("2.1.0", 1))
