@@ -83,6 +83,8 @@ class Same(Loader):
             self.assertGreater(out.count(b"\n"), 60)
         for asked in (["check", "--json"], ["check"], ["graph", "--json"], ["graph", "src/mark.ts", "src/é.js", "https://h.test/x y"], ["why", "src/t.ts"], ["unread"]):
             self.same(*asked[:1], "--no-cache", *asked[1:], "src/main.ts")
+        (broken,) = (entry for entry in json.loads(self.same("graph", "--json", "--no-cache", "src/broken.ts")[1])["modules"] if "message" in entry)
+        self.assertEqual([broken[key] for key in ("fault", "byte", "line", "column", "message")], ["Parse", 21, 1, 22, "this bracket has no partner"])
         for name in ("main.ts", "m.wasm", "bytes.js", "broken.ts", "é.js"):
             self.same("imports", f"src/{name}")
 
