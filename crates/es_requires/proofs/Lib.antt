@@ -1,0 +1,3 @@
+mod NumberLemmas
+mod EachLemmas
+pub mod Theorems

@@ -1,0 +1,10 @@
+use Rattle.std.proofs.Common.{◌∙◌}
+use Rattle.es_walk.proofs.LookLemmas.{one_asked}
+use Rattle.es_variables.specs.Numbers.{at_in}
+use Rattle.es_requires.specs.Calls.{rules}
+use Rattle.es_requires.proofs.calls.Calls.has_one.Goals as goal
+
+pub returns : goal.returns
+returns c =
+    one_asked (rules c.args.self.now.text.now c.args.self.now.tokens.now (at_in c.args.self.now.ids.now))
+    c.args.parts.now.entries.now c.args.path ∙ c.has_parts.ensures
