@@ -1,0 +1,6 @@
+pub mod ListLemmas
+pub mod NodeLemmas
+pub mod LeftLemmas
+pub mod GoneLemmas
+pub mod MergeLemmas
+pub mod Theorems

@@ -1,0 +1,16 @@
+use Rattle.std.proofs.Common.{length, arith}
+use Rattle.es_walk.proofs.LeftLemmas.{on_ok, cost_pos, cost_more}
+use Rattle.es_mentions.proofs.nodes.take_first.Goals as goal
+
+pub returns-in-None-clause-less : goal.returns-in-None-clause-less
+returns-in-None-clause-less c =
+    let pos = cost_pos (length c.args.parts.now.entries.now) in
+    omega (arith, pos)
+
+pub returns-in-Some-clause-less : goal.returns-in-Some-clause-less
+returns-in-Some-clause-less c =
+    let n = length c.args.parts.now.entries.now in
+    let m = length c.in-Some.item.parts.entries.now in
+    let more = cost_more m n (omega (arith, c.in-Some.ensures.below)) in
+    let pos = cost_pos m in
+    on_ok c.enter.result (λ less. omega (arith, less, more, pos)) c.enter.ensures.less
