@@ -60,7 +60,8 @@ module _ (x : List ℕ) (ts : List Token) where
     values = p.values ++ q.values;
     writes = both_written x ts old mid new p.values q.values p.writes q.writes;
     are = mapped_both role p.values q.values
-        ∙ (ap (λ os. os ++ map role q.values) p.are ∙ (ap (λ os. map Some them ++ os) q.are ∙ sym (mapped_both Some them bs)));
+        ∙ (ap (λ os. os ++ map role q.values) p.are
+        ∙ (ap (λ os. map Some them ++ os) q.are ∙ sym (mapped_both Some them bs)));
   }
 
   -- what may be there, as a list

@@ -23,6 +23,7 @@ module _ (x : List ℕ) (ts : List Token) where
     pub are : map role values ≡ map Some them
 
   -- whether a part is written: where there is none, nothing is
-  abbrev pub Gives : {A : Type 0} → (Value → Option A) → List ChangedEntry → List ChangedEntry → Bool → Option A → Type 0
+  abbrev pub Gives : {A : Type 0} → (Value → Option A) → List ChangedEntry → List ChangedEntry → Bool → Option A
+      → Type 0
   Gives role old new wrote (Some a) = (wrote ≡ true) × Puts role old new a
   Gives role old new wrote None = (wrote ≡ false) × Writes x ts old new []

@@ -1,0 +1,2 @@
+-- types of literals
+pub mod Leaves
