@@ -1,0 +1,2 @@
+-- patterns as patterns in types
+pub mod Patterns
