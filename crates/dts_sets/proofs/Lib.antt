@@ -1,0 +1,9 @@
+pub mod NameLemmas
+pub mod Grown
+pub mod FunctionForms
+pub mod LiteralForms
+pub mod LiteralLemmas
+pub mod TypeForms
+pub mod TypeLemmas
+pub mod Heads
+pub mod DeclLemmas
