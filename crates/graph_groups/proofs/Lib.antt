@@ -1,0 +1,4 @@
+pub mod GroupLemmas
+pub mod LawLemmas
+pub mod FoundLemmas
+pub mod Theorems

@@ -1,0 +1,3 @@
+-- What the public contract rests on.
+pub use Rattle.graph_order.specs.Edges
+pub mod Groups

@@ -1,0 +1,3 @@
+pub mod WhyLemmas
+pub mod NodeLemmas
+pub mod SearchLemmas

@@ -1,0 +1,5 @@
+-- What the public contracts rest on.
+pub use Rattle.graph_builder.specs.Graph
+pub mod Why
+-- What the crate's functions promise each other.
+pub mod Nodes
