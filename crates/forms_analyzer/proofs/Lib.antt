@@ -1,0 +1,3 @@
+pub mod TreeLemmas
+mod FormsLemmas
+pub mod Theorems
