@@ -1,9 +1,10 @@
 //! Graphs of small bundles.
 ghost use Rattle.std.specs.Prelude.{◌≡◌, []};
 
+use crate::endless::Endless;
 use base::{Items, SharedBytes};
 use deno_graph::{
-    Arrival, BuildError, BuildOptions, Entry, GraphBuild, GraphKind, Headers, LoadAnswer,
+    Arrival, BuildError, BuildOptions, Entry, GraphBuild, GraphKind, Headers, LoadAnswer, Loader,
     MemoryLoader, Module, ModuleGraph,
 };
 use graph_run::{Failed, report};
@@ -51,6 +52,12 @@ const GRAPHS: &[(Given, &str)] = &[
     ),
     ((ALL, 9, A, A_OF_B, &[], "z"), "unasked z.ts|finished|1"),
     ((ALL, 9, A, A_OF_B, &[], "aa"), "unasked a.ts|finished|2"),
+    ((ALL, 9, A, A_OF_B, &[], "az"), "unasked z.ts|finished|2"),
+    // Behind the last answer that is awaited nothing is polled.
+    (
+        (ALL, 9, A, A_OF_B, &[], "abz"),
+        "1 a.ts Module b.ts Missing|finished|2",
+    ),
     (
         (ALL, 9, A, &[], &[("a.ts", "a.ts")], ""),
         "1 a.ts TooManyRedirects|finished|1",
@@ -58,6 +65,17 @@ const GRAPHS: &[(Given, &str)] = &[
     (
         (ALL, 9, A, &[], &[("a.ts", "b.ts"), ("b.ts", "a.ts")], ""),
         "1 a.ts TooManyRedirects b.ts TooManyRedirects|finished|2",
+    ),
+    (
+        (
+            ALL,
+            9,
+            A,
+            &[],
+            &[("a.ts", "b.ts"), ("b.ts", "c.ts"), ("c.ts", "a.ts")],
+            "",
+        ),
+        "1 a.ts TooManyRedirects b.ts TooManyRedirects c.ts TooManyRedirects|finished|3",
     ),
     (
         (
@@ -190,7 +208,10 @@ pub fn builder(rt: &impl Abort, alloc: Global, given: &Given) -> GraphBuild<Memo
 }
 
 // What a poll answers: the specifiers with what they are, or the error.
-fn polled(alloc: Global, build: &mut GraphBuild<MemoryLoader>) -> Result<String, AllocError> {
+fn polled<L: Loader + Drop>(
+    alloc: Global,
+    build: &mut GraphBuild<L>,
+) -> Result<String, AllocError> {
     match build.poll() {
         Ok(graph) => line_of(alloc, &graph),
         Err(BuildError::TooManyModules { seen }) => format!(in alloc; "too many {seen}"),
@@ -241,6 +262,23 @@ fn graphs_of_the_roots(rt: HostRuntime) {
         assert_eq!(rt; line.as_str(), *want);
         assert!(rt; build.into_loader().log().len() <= asked);
     }
+}
+
+#[test]
+fn endless_modules_end_at_the_limit(rt: HostRuntime) {
+    let alloc = rt.alloc();
+    let roots = urls(&rt, alloc, &["n/0.ts"]);
+    let loader = Endless::new(alloc);
+    let build = GraphBuild::new(alloc, roots, options(alloc, ALL, 5), loader);
+    let mut build = build.expect(&rt, "memory");
+    let first = polled(alloc, &mut build).expect(&rt, "memory");
+    assert_eq!(rt; first.as_str(), "too many 6");
+    assert_eq!(rt; build.loader().asked, 5);
+    assert_eq!(rt; build.loader().polled, 5);
+    let second = polled(alloc, &mut build).expect(&rt, "memory");
+    assert_eq!(rt; second.as_str(), "finished");
+    assert_eq!(rt; build.loader().asked, 5, "nothing is asked");
+    assert_eq!(rt; build.loader().polled, 5, "nothing is polled");
 }
 
 #[test]

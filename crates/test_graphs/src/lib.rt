@@ -5,6 +5,7 @@
 mod arrivals;
 #[cfg(test)]
 mod batches;
+pub mod endless;
 #[cfg(test)]
 mod graphs;
 #[cfg(test)]

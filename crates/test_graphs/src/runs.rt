@@ -20,6 +20,24 @@ const FIVE: &str = r#"{"roots":["file:///1.ts"],"modules":[
 {"specifier":"file:///4.mts","text":""},
 {"specifier":"file:///5.mjs","text":"import './1.ts'"}]}"#;
 
+/// A redirect, a type-only import that leads to nothing, and a package.
+const REALISTIC: &str = r#"{"roots":["https://x.test/main.ts"],"modules":[
+{"specifier":"https://x.test/main.ts","text":"import { serve } from \"./deps.ts\";\nimport type { Conf } from \"./types.ts\";\nconst m = await import(\"npm:chalk@5\");\n"},
+{"specifier":"https://x.test/deps.ts","redirect":"https://x.test/v1/deps.ts"},
+{"specifier":"https://x.test/v1/deps.ts","text":"export const serve = 1;\n"}]}"#;
+
+const REALISTIC_REPORT: &str = r#"0 root https://x.test/main.ts
+https://x.test/deps.ts redirect https://x.test/v1/deps.ts
+https://x.test/main.ts module TypeScript 114
+  import 22-33 "./deps.ts" - -> https://x.test/deps.ts
+  import-type 61-73 "./types.ts" - -> https://x.test/types.ts
+  dynamic 98-111 "npm:chalk@5" - -> npm:chalk@5
+https://x.test/types.ts error Missing
+https://x.test/v1/deps.ts module TypeScript 24
+npm:chalk@5 package npm "chalk" "5" -
+entries 5
+"#;
+
 const MADE: &str =
     r#"0 {"limit":2,"modules":[{"specifier":"file:///m/0.ts","text":"import \"./1.ts\";\nexport const v0 = 0;\n"},{"specifier":"file:///m/1.ts","text":"import(\"./0.ts\");\nexport const v1 = 1;\n"}],"roots":["file:///m/0.ts"]}
 "#;
@@ -94,18 +112,22 @@ fn built<R: Abort + Threads + Sync>(rt: &R, alloc: Global, input: &str, piece: u
     ended(rt, alloc, &["build"], &mut source, &mut sink).expect(rt, "memory")
 }
 
-/// The same where one read or one write fails.
+/// The same where these reads and these writes fail.
 fn failing<R: Abort + Threads + Sync>(
     rt: &R,
     alloc: Global,
+    input: &str,
+    piece: usize,
     reads: &[u64],
     writes: &[u64],
-) -> String {
-    let bytes = FIVE.as_bytes().to_vec(alloc).expect(rt, "memory");
+) -> String
+    requires { 0 < piece }
+{
+    let bytes = input.as_bytes().to_vec(alloc).expect(rt, "memory");
     let reads = reads.to_vec(alloc).expect(rt, "memory");
     let writes = writes.to_vec(alloc).expect(rt, "memory");
-    let mut source = MemorySource::new(bytes, 64, reads);
-    let mut sink = MemorySink::new(alloc, 4096, 64, writes).expect(rt, "memory");
+    let mut source = MemorySource::new(bytes, piece, reads);
+    let mut sink = MemorySink::new(alloc, 4096, piece, writes).expect(rt, "memory");
     ended(rt, alloc, &["build"], &mut source, &mut sink).expect(rt, "memory")
 }
 
@@ -169,15 +191,46 @@ fn runs_of_batches(rt: HostRuntime) {
 #[test]
 fn runs_with_each_read_and_each_write_failing(rt: HostRuntime) {
     let alloc = rt.alloc();
-    let whole = failing(&rt, alloc, &[], &[]);
+    let whole = failing(&rt, alloc, FIVE, 64, &[], &[]);
     assert!(rt; whole.as_str().ends_with("entries 5\n"));
     for call in 0..32 {
-        let got = failing(&rt, alloc, &[call], &[]);
+        let got = failing(&rt, alloc, FIVE, 64, &[call], &[]);
         assert!(rt; got.as_str() == "3 " || got == whole, "read {call}");
-        let got = failing(&rt, alloc, &[], &[call]);
+        let got = failing(&rt, alloc, FIVE, 64, &[], &[call]);
         let taken = got.as_str().strip_prefix("4 ").unwrap_or("no fault");
         let due = whole.as_str().strip_prefix("0 ").unwrap_or("no report");
         assert!(rt; got == whole || due.starts_with(taken), "write {call}");
+    }
+}
+
+#[test]
+fn realistic_run_of_single_bytes_with_each_read_failing(rt: HostRuntime) {
+    let alloc = rt.alloc();
+    let whole = failing(&rt, alloc, REALISTIC, 1, &[], &[]);
+    assert_eq!(rt; whole.as_str(), REALISTIC_REPORT);
+    let bytes = REALISTIC.len() as u64;
+    for call in 0..bytes {
+        let got = failing(&rt, alloc, REALISTIC, 1, &[call], &[]);
+        assert_eq!(rt; got.as_str(), "3 ", "read {call}");
+    }
+    let got = failing(&rt, alloc, REALISTIC, 1, &[bytes], &[]);
+    assert_eq!(rt; got.as_str(), "3 ", "the read that finds the end");
+}
+
+#[test]
+fn realistic_run_of_single_bytes_with_each_write_failing(rt: HostRuntime) {
+    let alloc = rt.alloc();
+    let got = failing(&rt, alloc, REALISTIC, 1, &[], &[1]);
+    assert_eq!(rt; got.as_str(), "4 r");
+    let due = REALISTIC_REPORT.strip_prefix("0 ").unwrap_or("no report");
+    let bytes = due.len() as u64;
+    for call in 0..bytes {
+        let got = failing(&rt, alloc, REALISTIC, 1, &[], &[call]);
+        let taken = got.as_str().strip_prefix("4 ").unwrap_or("no fault");
+        assert!(rt;
+            due.starts_with(taken) && taken.len() as u64 == call,
+            "write {call}"
+        );
     }
 }
 

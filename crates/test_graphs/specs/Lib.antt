@@ -1,0 +1,2 @@
+-- What contracts see of the loaders of the tests.
+pub mod Endless
