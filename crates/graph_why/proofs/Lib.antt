@@ -1,3 +1,4 @@
 pub mod WhyLemmas
 pub mod NodeLemmas
 pub mod SearchLemmas
+pub mod Theorems
