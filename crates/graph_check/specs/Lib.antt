@@ -1,0 +1,2 @@
+pub mod SeenGraph
+pub mod Check
