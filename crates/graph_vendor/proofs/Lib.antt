@@ -3,4 +3,5 @@ pub mod NameLemmas
 pub mod FileLemmas
 pub mod RefusedLemmas
 pub mod KeptLemmas
-pub mod TwiceLemmas
+pub mod JoinedLemmas
+pub mod ApartLemmas

@@ -24,10 +24,10 @@ use Rattle.graph_vendor.specs.Names.{Entries, Held, Names, modules_of, media_of,
 
 -- ---- the modules' specifiers ascend
 
-abbrev keys : List Held → List Specifier
+abbrev pub keys : List Held → List Specifier
 keys ms = map (λ m. text_of m.0) ms
 
-keys_named : (base : Parts) (k : ℕ) (ms : List Held) → keys_at (names_from base k ms) ≡ keys ms
+pub keys_named : (base : Parts) (k : ℕ) (ms : List Held) → keys_at (names_from base k ms) ≡ keys ms
 keys_named base k [] = refl
 keys_named base k (m ∷ ms) = ap (λ (ts : List Specifier). text_of m.0 ∷ ts) (keys_named base (k + 1) ms)
 
@@ -42,7 +42,7 @@ all_kept P (e ∷ es) h = by (all_kept P es h.1) (module_of e.1)
     by rest None = rest
     by rest (Some m) = (h.0, rest)
 
-keys_ascend : (entries : Entries) → IsAscending entries
+pub keys_ascend : (entries : Entries) → IsAscending entries
     → IsStrictlySortedBy (slice_cmp nat_cmp) (keys (modules_of entries))
 unfolding IsStrictlySortedBy
 keys_ascend [] h = tt

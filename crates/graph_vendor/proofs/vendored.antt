@@ -1,4 +1,4 @@
-mod Lists
+pub mod Lists
 mod Setting
 mod Entries
 mod Texts
@@ -7,4 +7,7 @@ mod Sources
 mod News
 mod Reached
 mod Finals
+mod Ordered
+mod Graphs
+mod Apart
 pub mod Theorems

@@ -17,7 +17,7 @@ use Rattle.graph_entry.specs.declared.entry.Entry.TheVariants as entry
 use Rattle.graph_entry.specs.Specifier.{text_of}
 use Rattle.graph_entry.specs.Resolution.{Resolved}
 use Rattle.graph_entry.specs.Reading.{Reading}
-use Rattle.graph_builder.specs.Reach.{Specifier, has}
+use Rattle.graph_builder.specs.Reach.{Specifier}
 use Rattle.graph_builder.specs.Graph.{GraphData, texts}
 use Rattle.graph_vendor.specs.declared.plan.VendorCause.{VendorCause}
 use Rattle.graph_vendor.specs.declared.plan.VendorCause.TheVariants.{ReferrerImport, NameTaken, NameNotKept}
@@ -85,19 +85,13 @@ external (url, _) = None
 abbrev pub targets_of : List VendorFile → List Specifier
 targets_of files = map (λ (file : VendorFile). text_of file.target) files
 
--- the old name of the first file whose new name is one of these, or that of a file before it
-abbrev pub first_twice : List Specifier → List VendorFile → Option Parts
-first_twice before [] = None
-first_twice before (file ∷ files) =
-    if has before (text_of file.target) then Some file.source
-    else first_twice (before ++ text_of file.target ∷ []) files
-
 -- the plan by these names, which serve
 pub record IsMade (graph : GraphData) (names : Names) (plan : VendorPlan) : Type 0 where
   pub free : first_taken graph.entries names graph.entries ≡ None
   pub kept : IsFirstLost graph.entries names graph.entries None
   pub roots : texts plan.roots ≡ filter_map (λ r. renamed graph.entries names (text_of r)) graph.roots
   pub files : plan.files ≡ files_of graph.entries names (modules_of graph.entries)
+  -- no two have one new name
   pub apart : IsDistinct bytes_eq (targets_of plan.files)
   pub externals : plan.externals ≡ filter_map external graph.entries
 
@@ -106,9 +100,6 @@ pub data IsUnnamed (graph : GraphData) (names : Names) (cause : VendorCause) (s 
   taken : cause ≡ NameTaken → first_taken graph.entries names graph.entries ≡ Some s → IsUnnamed graph names cause s
   not_kept : first_taken graph.entries names graph.entries ≡ None → cause ≡ NameNotKept
       → IsFirstLost graph.entries names graph.entries (Some s) → IsUnnamed graph names cause s
-  twice : first_taken graph.entries names graph.entries ≡ None → IsFirstLost graph.entries names graph.entries None
-      → cause ≡ NameTaken
-      → first_twice [] (files_of graph.entries names (modules_of graph.entries)) ≡ Some s → IsUnnamed graph names cause s
 
 -- no place outside imports from the graph, and none of its entries is refused
 pub record Passes (reads : Reading) (graph : GraphData) : Type 0 where

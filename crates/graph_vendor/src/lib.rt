@@ -9,9 +9,10 @@
 //!
 //! `vendored`: The graph of a plan's files is the old graph, renamed: laws, and no code.
 //!
-//! - `vendored` (`proofs/vendored/Theorems.antt`): the graph of a plan's roots over the plan's own answers (`vendored_answers`,
-//! `specs/vendored/Vendored.antt`), resolved by the URL Standard and read by the parser, has the entries of the old graph but for its
-//! redirects, each at its new name, with its new literals, and leading to the new names of what it led to (`IsVendored`).
+//! - `vendored_graph` (`proofs/vendored/Theorems.antt`): there is a graph of a plan's roots over the plan's own answers
+//! (`vendored_answers`, `specs/vendored/Vendored.antt`), resolved by the URL Standard and read by the parser.
+//! - `vendored`: it has the entries of the old graph but for its redirects, each at its new name, with its new literals, and
+//! leading to the new names of what it led to (`IsVendored`).
 #![tactic(auto)]
 
 mod edges;
@@ -20,7 +21,6 @@ mod kept;
 mod names;
 mod plan;
 mod refused;
-mod twice;
 mod written;
 
 pub use crate::names::NewName;

@@ -1,5 +1,5 @@
 //! The names of modules in a folder.
-ghost use Rattle.std.specs.Prelude.{◌≡◌, ◌∷◌, [], ◌++◌, None, Some, IfOk, OnOk};
+ghost use Rattle.std.specs.Prelude.{◌≡◌, ◌≤◌, ◌^◌, ◌∷◌, [], ◌++◌, length, None, Some, IfOk, OnOk};
 ghost use Rattle.std.specs.Option.{option_copied};
 ghost use Rattle.std.specs.Result.{result_ok};
 ghost use Rattle.url.specs.Parser.{parse_url};
@@ -33,6 +33,7 @@ pub fn names_of(
 ) -> Result<Numbered<NewName>, AllocError>
     ensures names { IfOk result (λ names. names ≡ spec.names_in base.now graph.now.entries) }
     ensures ascending { IsAscending graph.now.entries }
+    ensures few { IfOk result (λ names. length names ≤ 2 ^ 63) }
 {
     let mut names = Numbered::new(alloc);
     for (specifier, entry) in graph.entries()? {

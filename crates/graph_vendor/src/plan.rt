@@ -16,7 +16,6 @@ use crate::files::files_of;
 use crate::kept::{first_lost, first_taken, renamed};
 use crate::names::{NewName, names_of};
 use crate::refused::first_refused;
-use crate::twice::first_twice;
 use base::Items;
 use graph_builder::ModuleGraph;
 use graph_entry::{Entry, ModuleAnalyzer};
@@ -53,7 +52,7 @@ pub enum VendorCause {
     ReferenceComment,
     /// An edge of the module is in WebAssembly.
     WasmImport,
-    /// The module's new name is the specifier of an entry, or the new name of a module before it.
+    /// The module's new name is the specifier of an entry.
     NameTaken,
     /// The module's new name is no URL or none that a loader is asked for, has another media type, or leads elsewhere by
     /// one of its new literals.
@@ -129,6 +128,7 @@ fn passed<M: ModuleAnalyzer>(
 }
 
 // What becomes of a graph of which nothing is refused.
+#[tactic(auto, using(crate::proofs::ApartLemmas::names_apart))]
 fn named(alloc: Global, graph: &ModuleGraph, base: &Url) -> Result<Planned, AllocError>
     requires { AreOwn graph.now.entries }
     ensures { IfOk result (IsNamed graph.now (names_in base.now graph.now.entries)) }
@@ -142,7 +142,8 @@ fn named_so(
     graph: &ModuleGraph,
     names: &Numbered<NewName>,
 ) -> Result<Planned, AllocError>
-    requires { AreOwn graph.now.entries }
+    requires own { AreOwn graph.now.entries }
+    requires apart { IsDistinct bytes_eq (spec.targets_of (spec.files_of graph.now.entries names.now (modules_of graph.now.entries))) }
     ensures { IfOk result (IsNamed graph.now names.now) }
 {
     match first_taken(graph, names)? {
@@ -157,29 +158,13 @@ fn free_so(
     names: &Numbered<NewName>,
 ) -> Result<Planned, AllocError>
     requires own { AreOwn graph.now.entries }
+    requires apart { IsDistinct bytes_eq (spec.targets_of (spec.files_of graph.now.entries names.now (modules_of graph.now.entries))) }
     requires free { taken graph.now.entries names.now graph.now.entries ≡ None }
     ensures { IfOk result (IsNamed graph.now names.now) }
 {
     match first_lost(alloc, graph, names)? {
         Some(specifier) => Ok(Planned::Unplanned(VendorCause::NameNotKept, specifier)),
-        None => kept_so(alloc, graph, names),
-    }
-}
-
-fn kept_so(
-    alloc: Global,
-    graph: &ModuleGraph,
-    names: &Numbered<NewName>,
-) -> Result<Planned, AllocError>
-    requires own { AreOwn graph.now.entries }
-    requires free { taken graph.now.entries names.now graph.now.entries ≡ None }
-    requires kept { IsFirstLost graph.now.entries names.now graph.now.entries None }
-    ensures { IfOk result (IsNamed graph.now names.now) }
-{
-    let files = files_of(alloc, graph, names)?;
-    match first_twice(alloc, files.as_slice())? {
-        Some(specifier) => Ok(Planned::Unplanned(VendorCause::NameTaken, specifier)),
-        None => Ok(Planned::Made(plan_by(alloc, graph, names, files)?)),
+        None => Ok(Planned::Made(plan_by(alloc, graph, names)?)),
     }
 }
 
@@ -187,17 +172,16 @@ fn plan_by(
     alloc: Global,
     graph: &ModuleGraph,
     names: &Numbered<NewName>,
-    files: Items<VendorFile>,
 ) -> Result<VendorPlan, AllocError>
+    requires own { AreOwn graph.now.entries }
+    requires apart { IsDistinct bytes_eq (spec.targets_of (spec.files_of graph.now.entries names.now (modules_of graph.now.entries))) }
     requires free { taken graph.now.entries names.now graph.now.entries ≡ None }
     requires kept { IsFirstLost graph.now.entries names.now graph.now.entries None }
-    requires files { files ≡ spec.files_of graph.now.entries names.now (modules_of graph.now.entries) }
-    requires apart { IsDistinct bytes_eq (spec.targets_of files) }
     ensures { IfOk result (IsMade graph.now names.now) }
 {
     Ok(VendorPlan {
         roots: roots_of(alloc, graph, names)?,
-        files,
+        files: files_of(alloc, graph, names)?,
         externals: externals_of(alloc, graph)?,
     })
 }

@@ -4,6 +4,7 @@
 mod answer;
 mod blind;
 mod given;
+mod written;
 
 use crate::answer::answer;
 use std::io::Read;

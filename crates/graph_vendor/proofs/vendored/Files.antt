@@ -139,7 +139,7 @@ others_named v s e at stays plain =
 abbrev Answered : List VendorFile → Specifier → Option LoadAnswer
 Answered files s = value_at (map content_of files) s
 
-keys_answered : (files : List VendorFile) → keys_at (map content_of files) ≡ targets_of files
+pub keys_answered : (files : List VendorFile) → keys_at (map content_of files) ≡ targets_of files
 keys_answered [] = refl
 keys_answered (f ∷ fs) = ap (λ (ts : List Specifier). text_of f.target ∷ ts) (keys_answered fs)
 
@@ -307,7 +307,7 @@ module_answered v s m target at is =
     (same_files v (text_of target)
     ∙ file_found (entries_of v) (names_of v) (entries_of v) s m target apart at is)
 
-no_file : (v : Setting) (s : Specifier) (e : Entry) → entry_of (entries_of v) s ≡ Some e → (o : Option LoadAnswer)
+pub no_file : (v : Setting) (s : Specifier) (e : Entry) → entry_of (entries_of v) s ≡ Some e → (o : Option LoadAnswer)
     → Answered v.plan.files s ≡ o → o ≡ None
 no_file v s e at None is = refl
 no_file v s e at (Some a) is =

@@ -38,7 +38,7 @@ use Rattle.graph_vendor.proofs.vendored.Reached.{led_renamed, step_reached, foll
 abbrev SuitsAlike : (Module → Bool) → Type 0
 SuitsAlike suits = (m n : JsModule) → suits (Js m) ≡ suits (Js n)
 
-fits_alike : (b : Bool) (a : Attribute) → SuitsAlike (fits_by b a)
+pub fits_alike : (b : Bool) (a : Attribute) → SuitsAlike (fits_by b a)
 fits_alike true Absent m n = refl
 fits_alike false Absent m n = refl
 fits_alike true (Named text) m n = refl
@@ -112,7 +112,7 @@ leads_on v last m s target text is leads =
     (subst (λ (r : Specifier). LeadsTo (old_rules v) v.answers r last) (sym text) leads)
 
 -- an edge that leads amiss over the new answers led amiss before
-amiss_back : (v : Setting) (m n : JsModule) (d e : Dependency) (suits : Module → Bool) → SuitsAlike suits
+pub amiss_back : (v : Setting) (m n : JsModule) (d e : Dependency) (suits : Module → Bool) → SuitsAlike suits
     → n.media_type ≡ m.media_type
     → EdgeMoves (entries_of v) (names_of v) (new_literals (entries_of v) (names_of v) m) d e
     → ((s : Specifier) → led_to (follows v.following m) d ≡ Some s → Reaches v s)
@@ -165,16 +165,16 @@ edge_stays v m n d e made media moves reached ok (fit none also is) = is
 
 -- ---- all of them
 
-abbrev LeadsInto : Setting → JsModule → List Dependency → Type 0
+abbrev pub LeadsInto : Setting → JsModule → List Dependency → Type 0
 LeadsInto v m ds = (s : Specifier) → has (filter_map (led_to (follows v.following m)) ds) s ≡ true → Reaches v s
 
-into_first : (v : Setting) (m : JsModule) (d : Dependency) (ds : List Dependency) (s : Specifier)
+pub into_first : (v : Setting) (m : JsModule) (d : Dependency) (ds : List Dependency) (s : Specifier)
     → LeadsInto v m (d ∷ ds) → led_to (follows v.following m) d ≡ Some s → Reaches v s
 into_first v m d ds s into e =
     into s (ap (λ (o : Option Specifier). has (cons_option o (filter_map (led_to (follows v.following m)) ds)) s) e
     ∙ ap (λ (b : Bool). b || has (filter_map (led_to (follows v.following m)) ds) s) (nat_list_eq_equiv.refl s))
 
-into_later : (v : Setting) (m : JsModule) (d : Dependency) (ds : List Dependency) → LeadsInto v m (d ∷ ds)
+pub into_later : (v : Setting) (m : JsModule) (d : Dependency) (ds : List Dependency) → LeadsInto v m (d ∷ ds)
     → LeadsInto v m ds
 into_later v m d ds into s h = into s (by (led_to (follows v.following m) d))
   where
@@ -199,7 +199,7 @@ edges_stay v m n (d ∷ ds) (e ∷ es) (x ∷ made) media moves into ok are =
 
 -- ---- the final entry
 
-module_into : (v : Setting) (s : Specifier) (m : JsModule) → entry_of (entries_of v) s ≡ Some (entry.Module (Js m))
+pub module_into : (v : Setting) (s : Specifier) (m : JsModule) → entry_of (entries_of v) s ≡ Some (entry.Module (Js m))
     → LeadsInto v m m.dependencies
 unfolding targets
 module_into v s m at r h = step_reached v s r (entry.Module (Js m)) at h

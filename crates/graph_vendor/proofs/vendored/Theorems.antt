@@ -1,9 +1,11 @@
 -- The graph of a plan's files is the old graph, renamed.
-use Rattle.std.proofs.Common.{◌≡◌, ◌∙◌, refl, sym, ap, subst, ◌⊎◌, inl, inr, true, false, Option, Some, None}
-use Rattle.std.specs.Prelude.{is_some, Ok}
+use Rattle.std.proofs.Common.{◌≡◌, ◌∙◌, ◌++◌, ◌≤◌, refl, sym, ap, subst, ◌⊎◌, inl, inr, true, false, length, Option, Some, None}
+use Rattle.std.specs.Prelude.{is_some, Ok, bytes_eq}
+use Rattle.std.specs.List.{IsDistinct}
 use Rattle.std.proofs.lemmas.Option.{none-some, same_Some}
 use Rattle.url.specs.Parts.{Parts}
-use Rattle.graph_entry.specs.Specifier.{text_of}
+use Rattle.graph_entry.specs.Specifier.{text_of, loadable}
+use Rattle.graph_entry.specs.declared.answer.LoadAnswer.{LoadAnswer}
 use Rattle.graph_entry.specs.Reading.{Reading, IsFunction}
 use Rattle.graph_entry.specs.Ways.{Ways}
 use Rattle.graph_entry.specs.declared.entry.Module.{Module}
@@ -11,13 +13,13 @@ use Rattle.graph_entry.specs.declared.entry.Entry.{Entry}
 use Rattle.graph_entry.specs.declared.entry.Entry.TheVariants as entry
 use Rattle.graph_builder.specs.declared.following.Following.{Following}
 use Rattle.graph_builder.specs.Rules.{rules_of}
-use Rattle.graph_builder.specs.Reach.{Specifier, Answers}
+use Rattle.graph_builder.specs.Reach.{Specifier, Answers, IsReached}
 use Rattle.graph_builder.specs.Final.{is_redirect, is_module}
 use Rattle.graph_builder.specs.Graph.{GraphData, IsGraph, entry_of, texts}
 use Rattle.graph_builder.proofs.ByTextLemmas.{has-keys_at}
 use Rattle.graph_vendor.specs.declared.plan.VendorPlan.{VendorPlan}
 use Rattle.graph_vendor.specs.Names.{Entries, names_in, renamed}
-use Rattle.graph_vendor.specs.Plan.{IsPlanned}
+use Rattle.graph_vendor.specs.Plan.{IsPlanned, targets_of}
 use Rattle.graph_vendor.specs.vendored.Vendored.{vendored_answers, EntryMoves, Stands, IsVendored}
 use Rattle.graph_vendor.proofs.vendored.Setting.{AsParser, rules_with, Setting, entries_of, names_of, new_rules, new_answers}
 use Rattle.graph_vendor.proofs.vendored.Entries.{reached_at}
@@ -25,6 +27,8 @@ use Rattle.graph_vendor.proofs.vendored.Files.{named, module_renamed, others_nam
 use Rattle.graph_vendor.proofs.vendored.News.{newly}
 use Rattle.graph_vendor.proofs.vendored.Reached.{NewReaches, new_names, names_reached}
 use Rattle.graph_vendor.proofs.vendored.Finals.{final_new}
+use Rattle.graph_vendor.proofs.vendored.Graphs.{has_graph, answered}
+use Rattle.graph_vendor.proofs.vendored.Apart.{apart}
 
 -- ---- new names differ
 
@@ -112,26 +116,43 @@ module _ (v : Setting) (news : Entries) (new : IsGraph (new_rules v) (texts v.pl
   }
 
 -- A graph whose entries are what its answers mean, by any way of resolving, and any of reading that reads a source as
--- one thing at most, has a plan. Then a graph of the plan's roots over the plan's own answers, by the URL Standard and the
--- parser, has its entries but for redirects, renamed.
-pub vendored : (ways : Ways) (following : Following) (reads : Reading) (answers : Answers) (graph : GraphData)
-    (base : Parts) (plan : VendorPlan) (news : Entries) → IsFunction ways.reads → AsParser reads
-    → IsGraph (rules_with ways following) (texts graph.roots) answers graph.entries
-    → IsPlanned reads graph base (Ok plan)
-    → IsGraph (rules_of following) (texts plan.roots) (vendored_answers plan) news
-    → IsVendored graph.entries (names_in base graph.entries) news
-vendored ways following reads answers graph base plan news once parser old planned new =
-    is_vendored (record {
-      ways = ways;
-      once = once;
-      following = following;
-      reads = reads;
-      parser = parser;
-      answers = answers;
-      graph = graph;
-      base = base;
-      plan = plan;
-      old = old;
-      passes = planned.0;
-      made = planned.1;
-    }) news new
+-- one thing at most, has a plan.
+module _ (ways : Ways) (following : Following) (reads : Reading) (answers : Answers) (graph : GraphData) (base : Parts)
+    (plan : VendorPlan) (once : IsFunction ways.reads) (parser : AsParser reads)
+    (old : IsGraph (rules_with ways following) (texts graph.roots) answers graph.entries)
+    (planned : IsPlanned reads graph base (Ok plan)) where
+  abbrev setting : Setting
+  setting = record {
+    ways = ways;
+    once = once;
+    following = following;
+    reads = reads;
+    parser = parser;
+    answers = answers;
+    graph = graph;
+    base = base;
+    plan = plan;
+    old = old;
+    passes = planned.0;
+    made = planned.1;
+  }
+
+  -- Then a graph of the plan's roots over the plan's own answers, by the URL Standard and the parser, has its entries
+  -- but for redirects, renamed.
+  pub vendored : (news : Entries) → IsGraph (rules_of following) (texts plan.roots) (vendored_answers plan) news
+      → IsVendored graph.entries (names_in base graph.entries) news
+  vendored news new = is_vendored setting news new
+
+  -- There is such a graph, with no more entries.
+  pub vendored_graph : (news : Entries) × IsGraph (rules_of following) (texts plan.roots) (vendored_answers plan) news
+      × (length news ≤ length graph.entries)
+  vendored_graph = let g = has_graph setting in (g.news, g.is_graph, g.few)
+
+  -- Each specifier that is reached there, and that a loader is asked for, is answered.
+  pub vendored_answered : (s : Specifier) → IsReached (rules_of following) (texts plan.roots) (vendored_answers plan) s
+      → loadable s ≡ true → (a : LoadAnswer) × (vendored_answers plan s ≡ Some a)
+  vendored_answered s reached loads = answered setting s reached loads
+
+  -- No two of the plan's files and of what isn't part of the sources have one specifier.
+  pub vendored_apart : IsDistinct bytes_eq (targets_of plan.files ++ texts plan.externals)
+  vendored_apart = apart setting
