@@ -1,0 +1,2 @@
+-- names and their types
+pub mod NameLemmas
