@@ -1,0 +1,2 @@
+-- keys of types, and names with dots
+pub mod Keys
