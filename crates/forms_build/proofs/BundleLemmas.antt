@@ -1,0 +1,36 @@
+-- No answer of such a bundle comes in any case.
+use Rattle.std.specs.Prelude.{Bool, false, List, Option, Some, None, Ok, Err, codes}
+use Rattle.std.specs.List.{list_any}
+use Rattle.std.proofs.Common.{◌≡◌, ap}
+use Rattle.serde_json.specs.Data.{Data, Members}
+use Rattle.serde_json.specs.Find.{as_object}
+use Rattle.import_map.specs.json_reading.Reading.{Reading, and_then, said, bool_of, optional}
+use Rattle.graph_builder.specs.Memory.{is_forced}
+use Rattle.graph_bundle.specs.declared.chosen.ChosenBundle.{ChosenBundle}
+use Rattle.graph_bundle.specs.Bundle.{chosen_from_by}
+use Rattle.graph_bundle.proofs.BundleLemmas.{members_unforced}
+use Rattle.forms_build.specs.declared.bundle.FormsBundle.{FormsBundle}
+use Rattle.forms_build.specs.Bundle.{knows_forms, forms_from, forms_of}
+
+-- what a choice and a bundle say together has the bundle
+forms_chosen : (commonjs : Reading Bool) (chosen : Reading ChosenBundle) (forms : FormsBundle)
+    → and_then (λ c. and_then (λ b. Ok (record { chosen = b; commonjs = c })) chosen) commonjs ≡ Ok forms
+    → chosen ≡ Ok forms.chosen
+forms_chosen (Err at) chosen forms is = absurd (cc)
+forms_chosen (Ok commonjs) (Err at) forms is = absurd (cc)
+forms_chosen (Ok commonjs) (Ok chosen) forms is =
+    let same : record { chosen = chosen; commonjs = commonjs } ≡ forms = cc in
+    ap (λ (f : FormsBundle). Ok f.chosen) same
+
+pub forms_unforced : (value : Data) (forms : FormsBundle) → forms_of value ≡ Ok forms
+    → list_any is_forced forms.chosen.bundle.arrival ≡ false
+unfolding forms_of
+forms_unforced value forms is = by (as_object value) is
+  where
+    by : (o : Option Members) → and_then (forms_from value) (said o) ≡ Ok forms
+        → list_any is_forced forms.chosen.bundle.arrival ≡ false
+    by None is = absurd (cc)
+    by (Some members) is =
+        members_unforced knows_forms value members forms.chosen
+        (forms_chosen (optional bool_of false (codes "commonJs") value) (chosen_from_by knows_forms value members) forms
+        is)

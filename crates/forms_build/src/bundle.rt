@@ -1,0 +1,97 @@
+//! Bundles with choices, and with one more: whether calls of `require` count.
+ghost use Rattle.std.specs.Prelude.{◌≡◌, ℕ, List, IfOk, Err, Ok};
+ghost use Rattle.serde_json.specs.Data.{Data};
+ghost use Rattle.serde_json.specs.View.{view, members_view};
+ghost use Rattle.graph_bundle.specs.Bundle.{IsJson};
+ghost use Rattle.graph_run.specs.Steps.{IsUnforced};
+ghost use Rattle.forms_build.specs.Bundle.{forms_of, forms_from};
+ghost use Rattle.forms_build.specs.Bundle as spec;
+
+use base::Text;
+use graph_bundle::{BundleFault, ChosenBundle, ChosenKeys, Keys, chosen_with, fault_of, optional};
+use import_map::json_reading::Reading;
+use serde_json::{Map, Value};
+use std::alloc::{AllocError, Global};
+
+/// A bundle with choices.
+#[derive(Drop)]
+pub struct FormsBundle {
+    pub chosen: ChosenBundle,
+    /// Calls of a free `require` are edges too.
+    pub commonjs: bool,
+}
+
+/// The bundle that the bytes say, which are given back as soon as they are read, before the texts of the modules are made.
+pub fn take_forms(alloc: Global, bytes: Vec<u8>) -> Result<FormsBundle, BundleFault>
+    ensures bundle { IfOk result (λ b. (value : Data) × IsJson bytes.items value × (forms_of value ≡ Ok b)) }
+    ensures unforced { IfOk result (λ b. IsUnforced b.chosen.bundle) }
+    ensures not_json { result ≡ Err BundleFault.NotJson → (value : Data) → ¬ IsJson bytes.items value }
+    ensures pointer { (at : List ℕ) → result ≡ Err (BundleFault.Pointer at) →
+        (value : Data) × IsJson bytes.items value × (forms_of value ≡ Err at) }
+{
+    forms_taken(alloc, bytes)
+}
+
+fn forms_taken(alloc: Global, bytes: Vec<u8>) -> Result<FormsBundle, BundleFault>
+    ensures bundle { IfOk result (λ b. (value : Data) × IsJson bytes.items value × (forms_of value ≡ Ok b)) }
+    ensures not_json { result ≡ Err BundleFault.NotJson → (value : Data) → ¬ IsJson bytes.items value }
+    ensures pointer { (at : List ℕ) → result ≡ Err (BundleFault.Pointer at) →
+        (value : Data) × IsJson bytes.items value × (forms_of value ≡ Err at) }
+{
+    let read = Value::from_slice(alloc, bytes.as_slice());
+    drop(bytes);
+    match read {
+        Ok(value) => forms_or_fault(alloc, &value),
+        Err(error) => Err(fault_of(&error)),
+    }
+}
+
+fn forms_or_fault(alloc: Global, value: &Value) -> Result<FormsBundle, BundleFault>
+    ensures bundle { IfOk result (λ b. forms_of (view value.now) ≡ Ok b) }
+    ensures not_json { ¬ (result ≡ Err BundleFault.NotJson) }
+    ensures pointer { (at : List ℕ) → result ≡ Err (BundleFault.Pointer at) → forms_of (view value.now) ≡ Err at }
+{
+    match forms_in(alloc, value) {
+        Ok(Ok(forms)) => Ok(forms),
+        Ok(Err(at)) => Err(BundleFault::Pointer(at)),
+        Err(_) => Err(BundleFault::OutOfMemory),
+    }
+}
+
+#[tactic(auto, unfolding(crate::specs::Bundle::forms_of))]
+fn forms_in(alloc: Global, value: &Value) -> Result<Reading<FormsBundle>, AllocError>
+    ensures { IfOk result (λ b. b ≡ forms_of (view value.now)) }
+{
+    match value.as_object() {
+        Some(members) => forms_with(alloc, value, members),
+        None => Ok(Err(Text::new(alloc))),
+    }
+}
+
+fn forms_with(
+    alloc: Global,
+    value: &Value,
+    members: &Map<String, Value>,
+) -> Result<Reading<FormsBundle>, AllocError>
+    ensures { IfOk result (λ b. b ≡ forms_from (view value.now) (members_view members.now.entries)) }
+{
+    let commonjs = match optional(alloc, value, "commonJs", false)? {
+        Ok(commonjs) => commonjs,
+        Err(at) => return Ok(Err(at)),
+    };
+    match chosen_with::<FormsKeys>(alloc, value, members)? {
+        Ok(chosen) => Ok(Ok(FormsBundle { chosen, commonjs })),
+        Err(at) => Ok(Err(at)),
+    }
+}
+
+/// The keys of such a bundle.
+struct FormsKeys;
+
+impl Keys for FormsKeys {
+    ghost knows = { spec.knows_forms };
+
+    fn knows(key: &str) -> bool {
+        ChosenKeys::knows(key) || key == "commonJs"
+    }
+}

@@ -1,0 +1,13 @@
+//! Bundles with choices, of which one is that calls of a free `require` are edges too, and their graphs.
+//!
+//! - `take_forms(alloc, bytes)`: the bundle that a JSON text says (`forms_of`, `specs/Bundle.antt`), or the pointer to the
+//!   first thing for which it says none.
+//! - `build_forms(rt, alloc, forms, batch)`: the graph of such a bundle (`IsGraphOf`, `specs/Forms.antt`), or that more is
+//!   reached than its limit. Its modules are analysed in batches, in threads.
+#![tactic(auto)]
+
+mod build;
+mod bundle;
+
+pub use build::build_forms;
+pub use bundle::{FormsBundle, take_forms};
