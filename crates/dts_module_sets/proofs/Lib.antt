@@ -1,0 +1,3 @@
+pub mod ItemForms
+pub mod ExportForms
+pub mod ProgramForms
