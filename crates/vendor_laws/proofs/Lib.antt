@@ -1,0 +1,7 @@
+mod Text
+mod Read
+mod Fresh
+mod Says
+mod Answered
+mod Limit
+pub mod Theorems
