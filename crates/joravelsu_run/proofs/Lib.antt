@@ -1,0 +1,3 @@
+pub mod GraphLemmas
+pub mod DueLemmas
+pub mod RunLemmas

@@ -1,0 +1,17 @@
+-- The arguments that the program is started with, and the forms that they have (this project's profile).
+use Rattle.std.specs.Prelude.{◌≡◌, ℕ, List, [], ◌∷◌, codes}
+use Rattle.joravelsu_run.specs.declared.words.Form.{Form}
+use Rattle.joravelsu_run.specs.declared.words.Form.TheVariants.{Build, Order}
+
+-- the words are this form
+abbrev pub IsForm : Form → List (List ℕ) → Type 0
+IsForm Build words = words ≡ codes "build" ∷ []
+IsForm Order words = words ≡ codes "order" ∷ []
+
+-- they are none of the forms
+abbrev pub IsNoForm : List (List ℕ) → Type 0
+IsNoForm words = (form : Form) → ¬ IsForm form words
+
+-- they are one of them
+abbrev pub IsReading : List (List ℕ) → Type 0
+IsReading words = (form : Form) × IsForm form words
