@@ -52,7 +52,7 @@ class Run:
         if packer.reader.reads_ahead:
             data = packer.bundle(roots).encode()
             packer.refuse_size(len(data))
-            status, self.report = self.program.report(data)
+            status, self.report = self.program.report(data, packer.has_choices)
         else:
             modules = packer.modules()
             status, self.report = self.program.graph(packer.settings(roots, len(modules)), modules)
@@ -114,6 +114,8 @@ class Run:
             asked.tsconfig = relative(project.settings_above(common, folder, project.TSCONFIGS))
         deno = project.settings_above(common, folder, project.DENO) if asked.deno is None else asked.deno
         asked.deno = None if deno in (None, "none") else os.path.relpath(deno, folder).replace(os.sep, "/")
+        # Deno asks for the attribute, bundlers don't.
+        self.json_without_attribute = asked.json_without_attribute = asked.deno is None
         asked.tsconfig = None if asked.tsconfig == "none" else asked.tsconfig
         has_package = any(project.settings_above(at, folder, ("package.json",)) for at in self.paths)
         asked.packages = asked.packages or has_package or os.path.isdir(os.path.join(folder, "node_modules"))

@@ -139,21 +139,21 @@ def is_newest(place):
 
 
 def release():
-    """Of a release its version, whether its program is proved, and the paths of its program and its library; else None."""
+    """Of a release its version, whether its programs are proved, and the paths of these and of its library; else None."""
     try:
         with open(RELEASE, encoding="utf-8") as file:
             found = json.load(file)
-        return {**found, **{key: os.path.join(ROOT, found[key]) for key in ("program", "library")}}
+        return {**found, **{key: os.path.join(ROOT, found[key]) for key in ("program", "second", "library")}}
     except FileNotFoundError:
         return None
     except (OSError, ValueError, KeyError, TypeError) as error:
         raise NoKit(f"{RELEASE} can't be read: {error}") from error
 
 
-def proved_program():
-    """The path of the proved program, or None where it isn't built or a source is newer."""
+def proved_program(name="graph_tool"):
+    """The path of a proved program, or None where it isn't built or a source is newer."""
     found = release()
     if found:
-        return found["program"] if found.get("proved") else None
-    place = os.path.join(ROOT, "crates", "graph_tool", "out", "graph_tool")
+        return found["program" if name == "graph_tool" else "second"] if found.get("proved") else None
+    place = os.path.join(ROOT, "crates", name, "out", name)
     return place if os.access(place, os.X_OK) and is_newest(place) else None

@@ -199,6 +199,7 @@ class Packer:
         self.resolver = Resolver(asked, self.folder)
         self.endings = ENDINGS + tuple("." + ending.lstrip(".").lower() for ending in asked.also)
         self.takes_any = "*" in asked.also
+        self.has_choices = getattr(asked, "json_without_attribute", False)
         self.contents = {}  # what the bundle would have for each file that was read
         self.sizes = {}
         self.why = {}
@@ -426,6 +427,8 @@ class Packer:
         value = {"roots": roots}
         if self.asked.kind:
             value["kind"] = self.asked.kind
+        if self.has_choices:
+            value["jsonWithoutAttribute"] = True
         if count > USUAL_LIMIT // 2:
             value["limit"] = min(1_000_000, 100 * count)
         if self.types:

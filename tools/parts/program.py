@@ -1,4 +1,5 @@
 """The program as the tools run it: proved where it is built, else compiled without its proofs."""
+import functools
 import json
 import os
 import subprocess
@@ -22,26 +23,45 @@ class Program:
 
     def __init__(self, who):
         """The program: of a release, the proved one, or the same compiled without its proofs, which `who` reports."""
+        self.who = who
         try:
-            self.proved = kits.proved_program()
-            self.path = self.proved or (kits.release() or {}).get("program") or unproved.program(who)
+            proved, second = kits.proved_program(), kits.proved_program(unproved.SECOND)
+            self.proved = bool(proved and second)
+            self.path = proved or (kits.release() or {}).get("program") or unproved.program(who)
         except (unproved.Failed, kits.NoKit, OSError) as failed:
             raise NoProgram(f"the program can't be compiled: {failed}") from failed
 
-    def report(self, bundle):
-        """The status, and what the program writes for a bundle."""
+    @functools.cached_property
+    def second(self):
+        """The path of the second program, of which the same is true. Unproved it is in the same file, and runs by its name."""
         try:
-            ran = subprocess.run([self.path, "build"], input=bundle, stdout=subprocess.PIPE, check=False, env=os.environ)
+            return kits.proved_program(unproved.SECOND) or (kits.release() or {}).get("second") or unproved.program(self.who)
+        except (unproved.Failed, kits.NoKit, OSError) as failed:
+            raise NoProgram(f"the program can't be compiled: {failed}") from failed
+
+    def ran(self, words, data, is_second=False):
+        """What one of the programs does with these arguments and this input."""
+        name, path = (unproved.SECOND, self.second) if is_second else (self.path, self.path)
+        return subprocess.run([name, *words], executable=path, input=data, stdout=subprocess.PIPE, check=False, env=os.environ)
+
+    def answer(self, word, bundle, is_second):
+        """The status, and what a program writes with this word for a bundle."""
+        try:
+            ran = self.ran([word], bundle, is_second)
         except OSError as error:
             raise NoProgram(f"the program can't be run: {error.strerror}") from error
         if ran.returncode not in (0, 1, 2):
             raise NoProgram(f"the program gave no report: {REASONS.get(ran.returncode, f'status {ran.returncode}')}")
         return ran.returncode, ran.stdout
 
+    def report(self, bundle, has_choices=False):
+        """The status, and what the program writes for a bundle, which may have the second program's keys."""
+        return self.answer("build", bundle, has_choices)
+
     def graph(self, settings, modules):
         """The status and the report of the graph of a bundle, by its modules and what else it has."""
         value = {**settings, "modules": modules}
-        return self.report(json.dumps(value, ensure_ascii=False).encode("utf-8", "surrogatepass"))
+        return self.report(json.dumps(value, ensure_ascii=False).encode("utf-8", "surrogatepass"), "jsonWithoutAttribute" in settings)
 
     def which_are_read(self, specifier, texts):
         """Of each text whether it is a program of the grammar, as a module of this specifier's ending."""

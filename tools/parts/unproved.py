@@ -22,6 +22,8 @@ import time
 from parts import kit as kits
 
 PROGRAM = "graph_tool"
+# The second program: compiled with the first, it runs where the program is called by its name.
+SECOND = "joravelsu_tool"
 # How many compiled programs are kept, those of tests among them.
 MOST_KEPT = 80
 # Before the first run the compiler is asked for something small; the program itself has megabytes.
@@ -349,6 +351,29 @@ def with_calls(main):
     return MAIN.sub(lambda found: found[0] + NEVER_IN_MAIN, main, count=1) + IS_NEVER
 
 
+# What the main of a program does last but one, and what that of both has at its front: which program it is called as.
+CALL = re.compile(r"(?m)^    let status = (.*);$")
+IS_SECOND = f"""    let words: Result<Vec<String>, AllocError> = match env::args(&rt) {{
+        Ok(words) => words.collect(rt.alloc()),
+        Err(_) => Ok(Vec::new(rt.alloc())),
+    }};
+    let is_second = match words {{
+        Ok(words) => words.len() > 0 && words[0].as_str().ends_with("{SECOND}"),
+        Err(_) => false,
+    }};
+"""
+
+
+def joined_mains():
+    """The mains of both programs as one."""
+    first, second = (source(crate, "main.rt").replace("#![tactic(auto)]\n", "") for crate in (PROGRAM, SECOND))
+    uses = [line for line in second.split("\n") if line.startswith("use ") and line not in first.split("\n")]
+    called = CALL.search(second)[1]
+    main = CALL.sub(lambda found: f"    let status = if is_second {{\n        {called}\n    }} else {{\n        {found[1]}\n    }};", first)
+    main = MAIN.sub(lambda found: found[0] + IS_SECOND, main, count=1)
+    return "\n".join([*uses, re.sub(r"(?m)^//!.*\n", "", main)])
+
+
 def source(crate, name):
     with open(os.path.join(kits.ROOT, "crates", crate, "src", name), encoding="utf-8") as file:
         return file.read()
@@ -357,21 +382,17 @@ def source(crate, name):
 def joined_sources(room):
     """A copy of the sources in which the library is a program: this one, which makes each of the library's calls."""
     root, listed = os.path.join(room, "root"), kits.listed_crates()
-    below = kits.crates_below(LIBRARY, listed) | kits.crates_below(PROGRAM, listed) - {PROGRAM}
+    below = kits.crates_below(LIBRARY, listed) | kits.crates_below(PROGRAM, listed) | kits.crates_below(SECOND, listed)
+    below -= {PROGRAM, SECOND}
     for crate in below:
         shutil.copytree(os.path.join(kits.ROOT, "crates", crate, "src"), os.path.join(root, "crates", crate, "src"))
     at = os.path.join(root, "crates", LIBRARY, "src")
-    main = with_calls(source(PROGRAM, "main.rt").replace("#![tactic(auto)]\n", ""))
-    main = re.sub(r"(?m)^//!.*\n", "", main).replace("#[cfg(test)]\nmod tests;\n", "")
     with open(os.path.join(at, "main.rt"), "w", encoding="utf-8") as file:
-        file.write(source(LIBRARY, "lib.rt") + CALLS + main)
+        file.write(source(LIBRARY, "lib.rt") + CALLS + with_calls(joined_mains()))
     os.unlink(os.path.join(at, "lib.rt"))
-    for name in os.listdir(os.path.join(kits.ROOT, "crates", PROGRAM, "src")):
-        if name not in ("main.rt", "tests.rt") and not os.path.exists(os.path.join(at, name)):
-            shutil.copy(os.path.join(kits.ROOT, "crates", PROGRAM, "src", name), at)
     with open(os.path.join(kits.ROOT, "crates.txt"), encoding="utf-8") as file:
         rows = [line for line in file if line.split(":")[0].split()[:1] and line.split(":")[0].split()[0] in below - {LIBRARY}]
-    names = [name for name in dict.fromkeys(listed[LIBRARY] + listed[PROGRAM]) if name != "staticlib"]
+    names = [name for name in dict.fromkeys(listed[LIBRARY] + listed[PROGRAM] + listed[SECOND]) if name != "staticlib"]
     with open(os.path.join(root, "crates.txt"), "w", encoding="utf-8") as file:
         file.writelines([*rows, f"{LIBRARY}: {' '.join(names)}\n"])
     shutil.copy(os.path.join(kits.ROOT, "HANDLES"), root)
@@ -397,6 +418,10 @@ def with_calls_visible(module, kit, room):
     return made
 
 
+def name_of_programs():
+    return f"{PROGRAM}-{sum_of(PROGRAM)[:20]}-{sum_of(SECOND)[:20]}.unproved"
+
+
 def name_of_library():
     return f"{LIBRARY}-{sum_of(LIBRARY)}.unproved.o"
 
@@ -407,13 +432,13 @@ def compile_both(told):
     kit = kits.kit()
     with a_room() as room, Clock(f"{told}: the program and the library are compiled without their proofs, once, in some three minutes"):
         module = module_of(LIBRARY, kit, room, joined_sources(room))
-        kits.keep(linked(object_of(module, kit, room), kit, room), f"{PROGRAM}-{sum_of(PROGRAM)}.unproved", ".unproved", MOST_KEPT)
+        kits.keep(linked(object_of(module, kit, room), kit, room), name_of_programs(), ".unproved", MOST_KEPT)
         kits.keep(object_of(with_calls_visible(module, kit, room), kit, room, "-fPIC"), name_of_library(), ".unproved.o")
 
 
 def program(told="unproved"):
-    """The path of the unproved program, compiled where that wasn't done of these sources yet."""
-    return made(f"{PROGRAM}-{sum_of(PROGRAM)}.unproved", told)
+    """The path of the unproved programs, compiled where that wasn't done of these sources yet."""
+    return made(name_of_programs(), told)
 
 
 def library(told="build-library"):

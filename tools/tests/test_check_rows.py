@@ -24,7 +24,7 @@ class Asked(check_rows.Asked):
         self.passed = self.failed = 0
         self.said = status, said.splitlines()
 
-    def run(self, words, bundle=""):
+    def run(self, words, bundle="", is_second=False):
         return self.said
 
 
@@ -51,8 +51,8 @@ class CheckRows(unittest.TestCase):
         self.assertEqual((bundle["roots"], bundle["modules"][1]), (["file:///a.ts"], {"specifier": "file:///c.ts", "redirect": "file:///a.ts"}))
 
     def test_a_bundle(self):
-        # once for each number of batches that is asked for
-        times = len(check_rows.BUILDS)
+        # once for each number of batches that is asked for, and by the second program
+        times = len(check_rows.BUILDS) + 1
         lines = REPORT.splitlines()
         self.assertEqual(self.counts(Asked(0, REPORT), "bundle", ["{}", "0", *lines]), (times, 0))
         self.assertEqual(self.counts(Asked(1, REPORT), "bundle", ["{}", "0", *lines]), (0, times))
@@ -65,8 +65,8 @@ class CheckRows(unittest.TestCase):
         self.assertEqual(self.counts(Asked(2, "error NotJson"), "entry", block), (0, 1))
 
     def test_an_order(self):
-        self.assertEqual(self.counts(Asked(0, "order file:///a.ts"), "order", {"a.ts": ""}, ["order a.ts"]), (1, 0))
-        self.assertEqual(self.counts(Asked(0, "order file:///a.ts"), "order", {"a.ts": ""}, []), (0, 1))
+        self.assertEqual(self.counts(Asked(0, "order file:///a.ts"), "order", {"a.ts": ""}, ["order a.ts"]), (2, 0))
+        self.assertEqual(self.counts(Asked(0, "order file:///a.ts"), "order", {"a.ts": ""}, []), (1, 1))
 
     def test_a_ring(self):
         check_rows.MANY, many = 3, check_rows.MANY

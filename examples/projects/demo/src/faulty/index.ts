@@ -13,5 +13,5 @@ import "not-installed";
 import "http://[";
 import "npm:";
 import "data:text/javascript";
-import data from "./data.json";
+import data from "./data.json" with { type: "text" };
 const legacy = require("./legacy.cjs");
