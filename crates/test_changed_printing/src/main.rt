@@ -1,0 +1,28 @@
+//! Tests of printing over changed rows, by the public calls: rows of the input, each a language, a source, what is written, and
+//! the printed text.
+#![tactic(auto)]
+
+mod answer;
+mod names;
+mod script;
+
+use crate::answer::answer;
+use std::io::Read;
+use test_rows::{Row, Tally};
+
+fn main(rt: HostRuntime) -> anyhow::Result<()> {
+    let alloc = rt.alloc();
+    let mut input = String::new(alloc);
+    let mut reader = rt.reader();
+    reader.read_to_string(&mut input)?;
+    let mut tally = Tally::new(alloc);
+    for line in input.as_str().lines() {
+        if !line.is_empty() && !line.starts_with('#') {
+            let row = Row::of(alloc, line)?;
+            let got = answer(alloc, &row)?;
+            tally.add(alloc, &row, got.as_str())?;
+        }
+    }
+    print!(rt; "{}", tally.told(alloc)?.as_str())?;
+    Ok(())
+}
