@@ -14,3 +14,5 @@ mod numbers;
 mod orders;
 #[cfg(test)]
 mod runs;
+#[cfg(test)]
+mod vendored;

@@ -5,7 +5,6 @@ ghost use Rattle.es_site.specs.declared.site.Site.{Site};
 ghost use Rattle.graph_entry.specs.Reading.{ReadsSource};
 
 use crate::given::{graph_of, url};
-use crate::written::written;
 use deno_graph::analyzer::ParserModuleAnalyzer;
 use graph_vendor::{VendorCause, VendorError, VendorPlan, plan_vendor};
 use std::alloc::{AllocError, Global};
@@ -19,7 +18,6 @@ pub fn answer(alloc: Global, row: &Row) -> Result<String, AllocError> {
     };
     match graph_of(alloc, row)? {
         Some(graph) => match plan_vendor(alloc, &ParserModuleAnalyzer, &graph, &base) {
-            Ok(plan) if row.call() == "write" => written(alloc, &plan),
             Ok(plan) => told(alloc, &plan),
             Err(VendorError::Refused(cause, specifier)) => {
                 format!(in alloc; "{} {}", word_of(cause), specifier.as_str())

@@ -4,7 +4,6 @@
 mod answer;
 mod blind;
 mod given;
-mod written;
 
 use crate::answer::answer;
 use std::io::Read;
