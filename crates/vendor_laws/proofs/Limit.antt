@@ -53,7 +53,8 @@ limited_by : (o : Option Data) (m : ℕ) → or_default limit_of default_limit o
 limited_by (Some value) m e =
     limited_in (option_and_then as_u64 (as_number value)) m (said_ok (limit_in value) m e)
 limited_by None m e =
-    let same : default_limit ≡ m = ap (λ (r : Reading ℕ). held default_limit r) e in (omega (arith, same), omega (arith, same))
+    let same : default_limit ≡ m = ap (λ (r : Reading ℕ). held default_limit r) e in
+    (omega (arith, same), omega (arith, same))
 
 options_limited : (value : Data) (options : BuildOptions) → options_of value ≡ Ok options → IsWithin options.limit
 options_limited value options e =

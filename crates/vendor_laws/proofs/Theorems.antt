@@ -26,9 +26,12 @@ use Rattle.graph_vendor.specs.Names.{Entries, names_in}
 use Rattle.graph_vendor.specs.Plan.{IsPlanned, targets_of}
 use Rattle.graph_vendor.specs.vendored.Vendored.{vendored_answers}
 use Rattle.graph_vendor.proofs.vendored.Theorems.{vendored, vendored_graph, vendored_apart}
+use Rattle.graph_run.specs.declared.status.Status.TheVariants.{Done}
+use Rattle.vendor_run.specs.Due.{IsVendored, OfBundle, IsDue}
+use Rattle.vendor_run.specs.Due as due
 use Rattle.vendor_report.specs.declared.wanted.Wanted.{Wanted}
 use Rattle.vendor_report.specs.Plans.{wanted_of}
-use Rattle.vendor_laws.specs.Bundle.{modules_at, bundle_at, IsReadable, IsWritten}
+use Rattle.vendor_laws.specs.Bundle.{modules_at, bundle_at, IsReadable, IsWritten, IsDone}
 use Rattle.vendor_laws.proofs.Answered.{answers}
 use Rattle.vendor_laws.proofs.Fresh.{fresh}
 use Rattle.vendor_laws.proofs.Limit.{limited}
@@ -118,3 +121,28 @@ module _ (input : List ℕ) (bundle : Bundle) (graph : GraphData) (base : Parts)
     moves = vendored ways following ReadsSource (tells bundle.modules) graph base plan reads_once as_parser old planned
         alone.0 alone.1;
   }
+
+-- With `Done` that is what was written.
+pub done_written : (base : Parts) (input text : List ℕ) → IsDue base input Done text → IsDone base input text
+done_written base input text (due.long more is line) = absurd (let bad : ⊥ = cc in bad)
+done_written base input text (due.no_json within none is line) = absurd (let bad : ⊥ = cc in bad)
+done_written base input text (due.no_bundle within value json at none is line) = absurd (let bad : ⊥ = cc in bad)
+done_written base input text (due.bundle bundle says of_bundle) = by of_bundle
+  where
+    made : (graph : GraphData) → IsGraphOf bundle graph → IsVendored base (wanted_of bundle.options) graph Done text
+        → IsDone base input text
+    made graph of (due.planned plan is_plan is same) = record {
+      bundle = bundle;
+      says = says;
+      graph = graph;
+      of = of;
+      plan = plan;
+      planned = is_plan;
+      is = same;
+      written = written input bundle graph base plan says of is_plan;
+    }
+    made graph of (due.refused cause specifier is_plan is line) = absurd (let bad : ⊥ = cc in bad)
+
+    by : OfBundle base bundle Done text → IsDone base input text
+    by (due.vendored graph of is) = made graph of is
+    by (due.large many is line) = absurd (let bad : ⊥ = cc in bad)

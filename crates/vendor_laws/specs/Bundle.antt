@@ -64,3 +64,14 @@ pub record IsWritten (bundle : Bundle) (graph : GraphData) (base : Parts) (plan 
   pub news : GraphData
   pub is_graph : IsGraphOf (bundle_at (wanted_of bundle.options) plan) news
   pub moves : IsVendored graph.entries (names_in base graph.entries) news.entries
+
+-- So it is of a text that is due with `Done` for an input and a folder: it is that of a plan.
+pub record IsDone (base : Parts) (input text : List ℕ) : Type 0 where
+  pub bundle : Bundle
+  pub says : IsInput input bundle
+  pub graph : GraphData
+  pub of : IsGraphOf bundle graph
+  pub plan : VendorPlan
+  pub planned : IsPlanned ReadsSource graph base (Ok plan)
+  pub is : text ≡ plan_text (wanted_of bundle.options) plan
+  pub written : IsReadable (wanted_of bundle.options) plan → IsWritten bundle graph base plan
