@@ -5,22 +5,24 @@ use Rattle.graph_builder.specs.Graph.{GraphData}
 use Rattle.graph_builder.specs.Memory.{tells}
 use Rattle.graph_builder.specs.declared.error.BuildError.{BuildError}
 use Rattle.graph_builder.specs.declared.error.BuildError.TheVariants.{NotYet, TooManyModules, UnaskedAnswer, Finished, OutOfMemory}
-use Rattle.graph_bundle.specs.declared.chosen.ChosenBundle.{ChosenBundle}
+use Rattle.forms_build.specs.declared.bundle.FormsBundle.{FormsBundle}
+use Rattle.forms_build.specs.Forms.{forms_rules, IsGraphOf}
+use Rattle.forms_build.specs.Bundle.{forms_of}
 use Rattle.graph_bundle.specs.declared.bundle.BundleFault.{BundleFault}
 use Rattle.graph_bundle.specs.declared.bundle.BundleFault.TheVariants as fault
-use Rattle.graph_bundle.specs.Bundle.{chosen_of, IsJson}
+use Rattle.graph_bundle.specs.Bundle.{IsJson}
 use Rattle.counted_io.specs.Transfer.{input_limit}
 use Rattle.graph_run.specs.declared.status.Status.{Status}
 use Rattle.graph_run.specs.Run.{bundle_starts, too_many_line}
 use Rattle.graph_run.specs.Steps.{OfFault, SaysLarge}
 use Rattle.joravelsu_run.specs.declared.words.Form.{Form}
-use Rattle.joravelsu_run.specs.Due.{IsGraphOf, chosen_rules, OfBundle, graph, large, IsDue, no_json, no_bundle}
+use Rattle.joravelsu_run.specs.Due.{OfBundle, graph, large, IsDue, no_json, no_bundle}
 use Rattle.joravelsu_run.specs.Steps.{OfEnd}
 
 -- what is due for the end of a builder is due for its bundle
-pub end_due : (form : Form) (b : ChosenBundle) (r : Result GraphData BuildError) (status : Status) (text : List ℕ)
+pub end_due : (form : Form) (b : FormsBundle) (r : Result GraphData BuildError) (status : Status) (text : List ℕ)
     → IfOk r (IsGraphOf b)
-    → IfErr r (SaysLarge (chosen_rules b) (bundle_starts b.bundle) (tells b.bundle.modules) b.bundle.options.limit)
+    → IfErr r (SaysLarge (forms_rules b) (bundle_starts b.chosen.bundle) (tells b.chosen.bundle.modules) b.chosen.bundle.options.limit)
     → OfEnd form r status text → OfBundle form b status text
 end_due form b (Ok g) status text of many is = graph g of is.0 is.1
 end_due form b (Err NotYet) status text of many is = absurd is
@@ -31,10 +33,10 @@ end_due form b (Err Finished) status text of many is = absurd is
 end_due form b (Err OutOfMemory) status text of many is = absurd is
 
 -- the line for bytes that are no bundle with choices is due for them
-pub fault_due : (form : Form) (input : List ℕ) (r : Result ChosenBundle BundleFault) (f : BundleFault)
+pub fault_due : (form : Form) (input : List ℕ) (r : Result FormsBundle BundleFault) (f : BundleFault)
     (status : Status) (text : List ℕ) → length input ≤ input_limit → r ≡ Err f
     → (r ≡ Err fault.NotJson → (value : Data) → ¬ IsJson input value)
-    → ((at : List ℕ) → r ≡ Err (fault.Pointer at) → (value : Data) × IsJson input value × (chosen_of value ≡ Err at))
+    → ((at : List ℕ) → r ≡ Err (fault.Pointer at) → (value : Data) × IsJson input value × (forms_of value ≡ Err at))
     → OfFault f status text → IsDue form input status text
 fault_due form input r fault.NotJson status text within found never at_fault is =
     no_json within (never found) is.0 is.1

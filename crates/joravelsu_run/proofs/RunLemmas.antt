@@ -7,22 +7,24 @@ use Rattle.std.proofs.lemmas.Map.Made.{length-le_from_is_member}
 use Rattle.serde_json.specs.Data.{Data}
 use Rattle.graph_entry.specs.Specifier.{text_of}
 use Rattle.graph_builder.specs.Graph.{GraphData, members_of}
-use Rattle.graph_bundle.specs.declared.chosen.ChosenBundle.{ChosenBundle}
-use Rattle.graph_bundle.specs.Bundle.{chosen_of, IsJson}
+use Rattle.forms_build.specs.declared.bundle.FormsBundle.{FormsBundle}
+use Rattle.forms_build.specs.Forms.{forms_rules, IsGraphOf}
+use Rattle.forms_build.specs.Bundle.{forms_of}
+use Rattle.graph_bundle.specs.Bundle.{IsJson}
 use Rattle.graph_run.specs.declared.status.Status.{Status}
 use Rattle.graph_run.specs.declared.status.Status.TheVariants.{Done, BuildRefused, BadInput, ReadFault, WriteFault, NoMemory, Usage}
 use Rattle.graph_run.specs.Run.{Always}
 use Rattle.graph_run.specs.Steps.{IsWritten, IsVerdict}
 use Rattle.joravelsu_run.specs.declared.words.Form.{Form}
 use Rattle.joravelsu_run.specs.Words.{IsForm, IsNoForm, IsReading}
-use Rattle.joravelsu_run.specs.Due.{IsGraphOf, IsTooLarge, OfBundle, graph, large, IsInput, IsDue, long, no_json, no_bundle, bundle, IsDueForm, IsRefused, IsLargeInput, IsSmallInput}
+use Rattle.joravelsu_run.specs.Due.{IsTooLarge, OfBundle, graph, large, IsInput, IsDue, long, no_json, no_bundle, bundle, IsDueForm, IsRefused, IsLargeInput, IsSmallInput}
 use Rattle.joravelsu_run.specs.Run.{usage_line, IsDueFor, usage, form, Wrote}
 use Rattle.joravelsu_run.specs.Steps.{WroteForm, Comes}
 
 -- ---- a bundle that is too large
 
 -- no graph of it is within its limit where it is too large
-too_large_none : (b : ChosenBundle) (g : GraphData) → IsTooLarge b → IsGraphOf b g → ⊥
+too_large_none : (b : FormsBundle) (g : GraphData) → IsTooLarge b → IsGraphOf b g → ⊥
 too_large_none b g t of =
     let bound : length t.members ≤ length (members_of g.entries) =
     length-le_from_is_member nat_list_eq_equiv t.members (members_of g.entries) t.once
@@ -37,22 +39,22 @@ one_value : (input : List ℕ) (v w : Data) → IsJson input v → IsJson input 
 one_value input v w h k = let both : Some v ≡ Some w = sym h.1 ∙ k.1 in cc
 
 -- and says one bundle with choices
-one_bundle : (input : List ℕ) (b c : ChosenBundle) → IsInput input b → IsInput input c → b ≡ c
+one_bundle : (input : List ℕ) (b c : FormsBundle) → IsInput input b → IsInput input c → b ≡ c
 one_bundle input b c h k =
     let same : h.value ≡ k.value = one_value input h.value k.value h.json k.json in
-    let both : ◌≡◌ {A = Result ChosenBundle (List ℕ)} (Ok b) (Ok c) = sym h.says ∙ ap chosen_of same ∙ k.says in cc
+    let both : ◌≡◌ {A = Result FormsBundle (List ℕ)} (Ok b) (Ok c) = sym h.says ∙ ap forms_of same ∙ k.says in cc
 
 module _ (f : Form) (input : List ℕ) (status : Status) (text : List ℕ) where
   -- for an input that is such a bundle what is due is that of the bundle
-  due_of : (b : ChosenBundle) → IsInput input b → IsDue f input status text → OfBundle f b status text
+  due_of : (b : FormsBundle) → IsInput input b → IsDue f input status text → OfBundle f b status text
   due_of b says (long lt _ _) = absurd (omega (arith, lt, says.within))
   due_of b says (no_json _ never _ _) = absurd (never says.value says.json)
   due_of b says (no_bundle _ value json at none _ _) =
       let same : says.value ≡ value = one_value input says.value value says.json json in
-      let both : ◌≡◌ {A = Result ChosenBundle (List ℕ)} (Ok b) (Err at) = sym says.says ∙ ap chosen_of same ∙ none in
+      let both : ◌≡◌ {A = Result FormsBundle (List ℕ)} (Ok b) (Err at) = sym says.says ∙ ap forms_of same ∙ none in
       absurd cc
   due_of b says (bundle c also of) =
-      subst (λ (d : ChosenBundle). OfBundle f d status text) (one_bundle input c b also says) of
+      subst (λ (d : FormsBundle). OfBundle f d status text) (one_bundle input c b also says) of
 
   -- the line of a bad input, for a refused one
   refused_due : IsRefused input → IsDue f input status text → status ≡ BadInput
@@ -63,17 +65,17 @@ module _ (f : Form) (input : List ℕ) (status : Status) (text : List ℕ) where
 
   -- the refusal, where it is too large
   large_due : IsLargeInput input → IsDue f input status text → status ≡ BuildRefused
-  large_due l due = by (due_of l.chosen l.says due)
+  large_due l due = by (due_of l.forms l.says due)
     where
-      by : OfBundle f l.chosen status text → status ≡ BuildRefused
-      by (graph g of is _) = absurd (too_large_none l.chosen g l.large of)
+      by : OfBundle f l.forms status text → status ≡ BuildRefused
+      by (graph g of is _) = absurd (too_large_none l.forms g l.large of)
       by (large _ is _) = is
 
   -- and else what is told of its graph
   small_due : IsSmallInput input → IsDue f input status text → status ≡ Done
-  small_due s due = by (due_of s.chosen s.says due)
+  small_due s due = by (due_of s.forms s.says due)
     where
-      by : OfBundle f s.chosen status text → status ≡ Done
+      by : OfBundle f s.forms status text → status ≡ Done
       by (graph g of is _) = is
       by (large t is _) = absurd (s.small t)
 

@@ -9,8 +9,10 @@ use Rattle.graph_builder.specs.Rules.{Rules, rules_by}
 use Rattle.graph_builder.specs.Graph.{GraphData, IsGraph}
 use Rattle.graph_builder.specs.Memory.{tells}
 use Rattle.graph_builder.specs.Builder.{following_of, json_allowed}
-use Rattle.graph_bundle.specs.declared.chosen.ChosenBundle.{ChosenBundle}
-use Rattle.graph_bundle.specs.Bundle.{IsJson, chosen_of}
+use Rattle.forms_build.specs.declared.bundle.FormsBundle.{FormsBundle}
+use Rattle.forms_build.specs.Forms.{forms_rules, IsGraphOf}
+use Rattle.forms_build.specs.Bundle.{forms_of}
+use Rattle.graph_bundle.specs.Bundle.{IsJson}
 use Rattle.graph_report.specs.Report.{report_of}
 use Rattle.graph_report.specs.Orders.{IsOrderText}
 use Rattle.counted_io.specs.Transfer.{input_limit}
@@ -20,26 +22,11 @@ use Rattle.graph_run.specs.Run.{HasMoreThan, bundle_resolving, bundle_resolves, 
 use Rattle.joravelsu_run.specs.declared.words.Form.{Form}
 use Rattle.joravelsu_run.specs.declared.words.Form.TheVariants.{Build, Order}
 
--- ---- the graph of a bundle with choices
-
--- the rules of its graph: those of its bundle, but that an import without an attribute may be of JSON where it says so
-abbrev pub chosen_rules : ChosenBundle → Rules
-chosen_rules chosen =
-    rules_by (AnalysedBy (ways_by (bundle_resolving chosen.bundle) ReadsSource))
-    (json_allowed chosen.json_without_attribute (following_of chosen.bundle.options))
-
--- the graph: of the bundle's roots and of what places outside import, over its modules, within its limit
-pub record IsGraphOf (chosen : ChosenBundle) (graph : GraphData) : Type 0 where
-  pub roots : graph.roots ≡ chosen.bundle.roots
-  pub imports : graph.imports ≡ map (referred_by (bundle_resolves chosen.bundle)) chosen.bundle.options.imports
-  pub entries : IsGraph (chosen_rules chosen) (bundle_starts chosen.bundle) (tells chosen.bundle.modules) graph.entries
-  pub within : length graph.entries ≤ chosen.bundle.options.limit
-
 -- more is reached than the bundle allows
-abbrev pub IsTooLarge : ChosenBundle → Type 0
-IsTooLarge chosen =
-    HasMoreThan (chosen_rules chosen) (bundle_starts chosen.bundle) (tells chosen.bundle.modules)
-    chosen.bundle.options.limit
+abbrev pub IsTooLarge : FormsBundle → Type 0
+IsTooLarge forms =
+    HasMoreThan (forms_rules forms) (bundle_starts forms.chosen.bundle) (tells forms.chosen.bundle.modules)
+    forms.chosen.bundle.options.limit
 
 -- ---- what is due
 
@@ -49,20 +36,20 @@ Tells Build graph text = text ≡ report_of graph
 Tells Order graph text = IsOrderText graph text
 
 -- what is due for a bundle with choices
-pub data OfBundle (form : Form) (chosen : ChosenBundle) (status : Status) (text : List ℕ) : Type 0 where
+pub data OfBundle (form : Form) (forms : FormsBundle) (status : Status) (text : List ℕ) : Type 0 where
   -- that of its graph
-  graph : (graph : GraphData) → IsGraphOf chosen graph → status ≡ Done → Tells form graph text
-      → OfBundle form chosen status text
+  graph : (graph : GraphData) → IsGraphOf forms graph → status ≡ Done → Tells form graph text
+      → OfBundle form forms status text
   -- it is too large
-  large : IsTooLarge chosen → status ≡ BuildRefused → text ≡ too_many_line (chosen.bundle.options.limit + 1)
-      → OfBundle form chosen status text
+  large : IsTooLarge forms → status ≡ BuildRefused → text ≡ too_many_line (forms.chosen.bundle.options.limit + 1)
+      → OfBundle form forms status text
 
 -- the input is a JSON text of this bundle with choices, and not too long
-pub record IsInput (input : List ℕ) (chosen : ChosenBundle) : Type 0 where
+pub record IsInput (input : List ℕ) (forms : FormsBundle) : Type 0 where
   pub within : length input ≤ input_limit
   pub value : Data
   pub json : IsJson input value
-  pub says : chosen_of value ≡ Ok chosen
+  pub says : forms_of value ≡ Ok forms
 
 -- what is due for an input
 pub data IsDue (form : Form) (input : List ℕ) (status : Status) (text : List ℕ) : Type 0 where
@@ -73,9 +60,9 @@ pub data IsDue (form : Form) (input : List ℕ) (status : Status) (text : List �
       → text ≡ not_json_line → IsDue form input status text
   -- else its value is no bundle with choices: the pointer to the first thing for which it is none
   no_bundle : length input ≤ input_limit → (value : Data) → IsJson input value → (at : List ℕ)
-      → chosen_of value ≡ Err at → status ≡ BadInput → text ≡ no_bundle_line at → IsDue form input status text
+      → forms_of value ≡ Err at → status ≡ BadInput → text ≡ no_bundle_line at → IsDue form input status text
   -- what is due for its bundle
-  bundle : (chosen : ChosenBundle) → IsInput input chosen → OfBundle form chosen status text
+  bundle : (forms : FormsBundle) → IsInput input forms → OfBundle form forms status text
       → IsDue form input status text
 
 -- for an input, where it is told
@@ -86,16 +73,16 @@ IsDueForm form input status text = IfSome input (λ bytes. IsDue form bytes stat
 
 -- no bundle with choices, or too long
 abbrev pub IsRefused : List ℕ → Type 0
-IsRefused input = (chosen : ChosenBundle) → ¬ IsInput input chosen
+IsRefused input = (forms : FormsBundle) → ¬ IsInput input forms
 
 -- one whose graph is too large
 pub record IsLargeInput (input : List ℕ) : Type 0 where
-  pub chosen : ChosenBundle
-  pub says : IsInput input chosen
-  pub large : IsTooLarge chosen
+  pub forms : FormsBundle
+  pub says : IsInput input forms
+  pub large : IsTooLarge forms
 
 -- one whose graph is not too large
 pub record IsSmallInput (input : List ℕ) : Type 0 where
-  pub chosen : ChosenBundle
-  pub says : IsInput input chosen
-  pub small : ¬ IsTooLarge chosen
+  pub forms : FormsBundle
+  pub says : IsInput input forms
+  pub small : ¬ IsTooLarge forms

@@ -15,24 +15,6 @@ use Rattle.graph_run.specs.Steps.{BundleWays, IsUnforced, mapped_resolves}
 use Rattle.joravelsu_run.specs.declared.words.Form.{Form}
 use Rattle.joravelsu_run.specs.Due.{Tells, IsDueForm}
 
--- what a builder with a bundle's resolver goes by, where an import without an attribute may be of JSON, or may not
-abbrev pub ways_allowing : Bool → BundleWays → BundleWays
-ways_allowing is_allowed ways = record {
-  following = json_allowed is_allowed ways.following;
-  resolver = ways.resolver;
-  analyzer = ways.analyzer;
-}
-
--- the builder of the same that goes by these, over the same loader
-abbrev pub rebuilt : Bool → BuildingBy Memory BundleWays → BuildingBy Memory BundleWays
-rebuilt is_allowed b =
-    new_building_by (ways_allowing is_allowed b.following) (mapped_resolves b.following.resolver.map) b.roots b.imports
-    b.limit b.loader (data_of b.loader)
-
--- no answer comes in any case
-abbrev pub IsFree : ChosenBundle → Type 0
-IsFree chosen = IsUnforced chosen.bundle
-
 -- what is due for an end of its builder
 abbrev pub OfEnd : Form → Result GraphData BuildError → Status → List ℕ → Type 0
 OfEnd form (Ok graph) status text = (status ≡ Done) × Tells form graph text

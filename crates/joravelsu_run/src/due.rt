@@ -1,17 +1,14 @@
 //! What is due for an input.
-ghost use Rattle.std.specs.Prelude.{◌≡◌, ◌≤◌, Err, Ok, ℕ, List, IfOk, length, string_bytes};
-ghost use Rattle.serde_json.specs.Data.{Data};
+ghost use Rattle.std.specs.Prelude.{◌≡◌, ◌≤◌, IfOk, length, string_bytes};
 ghost use Rattle.counted_io.specs.Transfer.{input_limit};
-ghost use Rattle.graph_bundle.specs.Bundle.{IsJson, chosen_of};
 ghost use Rattle.graph_run.specs.Run.{too_many_line};
 ghost use Rattle.graph_run.specs.Steps.{IsEnd};
 ghost use Rattle.joravelsu_run.specs.Due.{IsDue, Tells};
-ghost use Rattle.joravelsu_run.specs.Steps.{IsFree, OfEnd};
+ghost use Rattle.joravelsu_run.specs.Steps.{OfEnd};
 
-use crate::build::build_chosen;
 use crate::words::Form;
 use deno_graph::{BuildError, ModuleGraph};
-use graph_bundle::{BundleFault, ChosenBundle, take_chosen};
+use forms_build::{build_forms, take_forms};
 use graph_report::{order_lines, report};
 use graph_run::{Due, Status, due_for_fault};
 use std::alloc::{AllocError, Global};
@@ -30,21 +27,10 @@ pub fn due_for<R: Threads + Sync>(
     requires { length bytes.items ≤ input_limit }
     ensures { IfOk result (λ due. IsDue form bytes.items due.status (string_bytes due.text)) }
 {
-    match read_once(alloc, bytes) {
-        Ok(chosen) => due_for_end(alloc, build_chosen(rt, alloc, chosen, BATCH), form),
+    match take_forms(alloc, bytes) {
+        Ok(forms) => due_for_end(alloc, build_forms(rt, alloc, forms, BATCH), form),
         Err(fault) => due_for_fault(alloc, fault),
     }
-}
-
-/// The bundle with choices that the bytes say, which are given back once their JSON is read.
-fn read_once(alloc: Global, bytes: Vec<u8>) -> Result<ChosenBundle, BundleFault>
-    ensures bundle { IfOk result (λ b. (value : Data) × IsJson bytes.items value × (chosen_of value ≡ Ok b)) }
-    ensures unforced { IfOk result IsFree }
-    ensures not_json { result ≡ Err BundleFault.NotJson → (value : Data) → ¬ IsJson bytes.items value }
-    ensures pointer { (at : List ℕ) → result ≡ Err (BundleFault.Pointer at) →
-        (value : Data) × IsJson bytes.items value × (chosen_of value ≡ Err at) }
-{
-    take_chosen(alloc, bytes)
 }
 
 /// What is due where the builder has ended.

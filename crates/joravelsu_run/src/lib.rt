@@ -3,16 +3,13 @@
 //! - `run`: by its arguments, reads a bundle with choices and writes the report of its graph or the order of its modules, and
 //!   answers a `Status` (`Wrote`, `specs/Run.antt`).
 //! - `form_of`: the form that the arguments are (`IsForm`, `specs/Words.antt`).
-//! - `build_chosen`: the graph of a bundle with choices (`IsGraphOf`, `specs/Due.antt`).
 //!
 //! Running out of memory is the one answer without a cause.
 #![tactic(auto)]
 
-mod build;
 mod due;
 mod program;
 mod words;
 
-pub use crate::build::build_chosen;
 pub use crate::program::run;
 pub use crate::words::{Form, form_of};
