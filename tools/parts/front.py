@@ -43,8 +43,10 @@ class Run:
         self.paths = []
         self.configure(choices)
         asked.roots = list(self.roots(asked.roots or [asked.folder or project.named_above(os.getcwd())]))
-        self.program = made_program(asked.loader)
+        # Calls of require are edges of the second program's graphs alone.
+        self.program = made_program("program" if asked.commonjs else asked.loader)
         packer, roots = self.packed()
+        self.choices = packer.choices
         self.front = front_of(asked.folder)
         self.reasons = packer.reasons
         asked.files = [os.path.join(asked.folder, place) for place in sorted(packer.taken)]
@@ -95,7 +97,7 @@ class Run:
     def packed(self):
         """The packer of the project's folder: of a greater one where a specifier leads out of it and there is one."""
         folders = [os.path.abspath(self.asked.folder)] if self.asked.folder else project.folders_of(self.paths)
-        kept = None if self.asked.no_cache else records.Records(self.program)
+        kept = None if self.asked.no_cache else records.Records(self.program, ("commonJs",) * self.asked.commonjs)
         for number, folder in enumerate(folders):
             packer, roots = packing.packed(self.settled(folder), self.program.reader(self.program, kept, self.asked.check_cache), sys.stderr)
             if not packer.leads_out or number == len(folders) - 1:
@@ -115,7 +117,7 @@ class Run:
         deno = project.settings_above(common, folder, project.DENO) if asked.deno is None else asked.deno
         asked.deno = None if deno in (None, "none") else os.path.relpath(deno, folder).replace(os.sep, "/")
         # Deno asks for the attribute, bundlers don't.
-        self.json_without_attribute = asked.json_without_attribute = asked.deno is None
+        asked.json_without_attribute = asked.deno is None
         asked.tsconfig = None if asked.tsconfig == "none" else asked.tsconfig
         has_package = any(project.settings_above(at, folder, ("package.json",)) for at in self.paths)
         asked.packages = asked.packages or has_package or os.path.isdir(os.path.join(folder, "node_modules"))

@@ -64,6 +64,7 @@ class Resolver:
         self.paths = tsconfig.Paths(folder, asked.tsconfig) if asked.tsconfig else None
         self.map, self.told = import_maps.of_deno(folder, asked.deno) if asked.deno else (None, None)
         self.ways = resolve.Ways(asked.conditions, asked.browser, asked.kind == "types")
+        self.commonjs = getattr(asked, "commonjs", False)
         self.known = {}
         self.urls = {}
 
@@ -83,8 +84,10 @@ class Resolver:
     def lead(self, place, site, ways=None):
         """Where a site of a file leads."""
         ways = ways or self.ways
+        if self.commonjs and site.kind in sites.REQUIRES:
+            ways = ways.of_require()
         reference = site.kind if site.kind.startswith("reference-") else None
-        key = posixpath.dirname(place), site.value, reference, ways.types_first
+        key = posixpath.dirname(place), site.value, reference, ways.types_first, ways.requires
         if key not in self.known:
             self.known[key] = self.found(place, site.value, reference, ways)
         return self.known[key]
@@ -199,7 +202,9 @@ class Packer:
         self.resolver = Resolver(asked, self.folder)
         self.endings = ENDINGS + tuple("." + ending.lstrip(".").lower() for ending in asked.also)
         self.takes_any = "*" in asked.also
-        self.has_choices = getattr(asked, "json_without_attribute", False)
+        self.choices = choices_of(asked)
+        self.has_choices = bool(self.choices)
+        reader.choices = {key: True for key in self.choices if key == "commonJs"}
         self.contents = {}  # what the bundle would have for each file that was read
         self.sizes = {}
         self.why = {}
@@ -272,7 +277,7 @@ class Packer:
         ahead, size = list(places) if self.reader.reads_ahead else [], sum(self.sizes.values())
         while ahead and size <= MOST_BYTES:
             place = ahead.pop()
-            for value in sites.hints_in(self.contents[place].get("text", "")) if sites.is_source(place) else ():
+            for value in sites.hints_in(self.contents[place].get("text", ""), self.resolver.commonjs) if sites.is_source(place) else ():
                 found = self.likely(place, value)
                 if found and found not in self.sites and self.why_left_out(found) is None and self.may_load(found):
                     self.sites[found] = ()
@@ -283,7 +288,7 @@ class Packer:
     def likely(self, place, value):
         """The file that a text in a file likely names; what is wrong with it counts only where the program says that it is an import."""
         try:
-            return self.resolver.lead(place, sites.Site("import", value)).place
+            return self.resolver.lead(place, sites.Site(sites.REQUIRES[0] if self.resolver.commonjs else "import", value)).place
         except Wrong:
             return None
 
@@ -427,8 +432,7 @@ class Packer:
         value = {"roots": roots}
         if self.asked.kind:
             value["kind"] = self.asked.kind
-        if self.has_choices:
-            value["jsonWithoutAttribute"] = True
+        value.update(self.choices)
         if count > USUAL_LIMIT // 2:
             value["limit"] = min(1_000_000, 100 * count)
         if self.types:
@@ -470,6 +474,12 @@ class Packer:
         largest = sorted(self.taken, key=lambda place: -self.sizes[place])[:LARGEST]
         rows = "".join(f"\n  {self.sizes[place]:>12,}  {plain(place)}" for place in largest)
         raise Wrong(f"too large: {size:,} bytes, and the program reads at most {most:,}; --exclude leaves out; the largest of {len(self.taken):,} files:{rows}")
+
+
+def choices_of(asked):
+    """The keys of a bundle that the second program alone knows."""
+    said = {"jsonWithoutAttribute": "json_without_attribute", "commonJs": "commonjs"}
+    return {key: True for key, name in said.items() if getattr(asked, name, False)}
 
 
 def text_of(value, modules):

@@ -14,10 +14,11 @@ MOST_BYTES = 64_000_000
 
 
 class Records:
-    def __init__(self, program):
-        """The records of a program, which is known by its file."""
+    def __init__(self, program, choices=()):
+        """The records of a program, which is known by its file, and of what is chosen."""
         found = os.stat(program.path)
-        name = hashlib.sha256(repr((os.path.realpath(program.path), found.st_size, found.st_mtime_ns)).encode()).hexdigest()[:20]
+        known = os.path.realpath(program.path), found.st_size, found.st_mtime_ns, *choices
+        name = hashlib.sha256(repr(known).encode()).hexdigest()[:20]
         self.path = os.path.join(kit.KEPT, f"sites-{name}.records")
         self.rows = self.loaded()
         self.new = {}

@@ -16,6 +16,9 @@ TYPES = (".ts", ".tsx", ".mts", ".cts", ".d.ts")
 # What stands for a file of JavaScript: the source of which it is made, or its declaration.
 KIN = {".js": (".ts", ".tsx", ".d.ts"), ".mjs": (".mts", ".d.mts"), ".cjs": (".cts", ".d.cts"), ".jsx": (".tsx", ".d.ts")}
 CONDITIONS = ("import", "module", "default")
+# By which Node leads a call of require, and the endings that it tries first.
+REQUIRED = ("require", "node", "default")
+REQUIRED_ENDINGS = (".js", ".json", ".cjs")
 # A longer specifier is no path of a file.
 LONGEST = 4096
 BUILTINS = frozenset("""assert assert/strict async_hooks buffer child_process cluster console constants crypto
@@ -37,25 +40,35 @@ def joined(folder, path):
 class Ways:
     """By what a specifier becomes a file: the conditions of packages, the field `browser`, and whether types come first."""
 
-    def __init__(self, conditions=(), browser=False, types_first=False):
-        self.conditions = frozenset(conditions) | frozenset(CONDITIONS) | (frozenset(["browser"]) if browser else frozenset())
+    def __init__(self, conditions=(), browser=False, types_first=False, requires=False):
+        """requires: of a call of require, and not of an import."""
+        own = REQUIRED if requires else CONDITIONS
+        self.asked = frozenset(conditions)
+        self.conditions = self.asked | frozenset(own) | (frozenset(["browser"]) if browser else frozenset())
         self.browser = browser
         self.types_first = types_first
+        self.requires = requires
         types = ("types", "typings")
-        code = ("browser",) * browser + ("module", "main")
+        code = ("browser",) * browser + (("main", "module") if requires else ("module", "main"))
         self.fields = types + code if types_first else code + types
         self.endings = ENDINGS if types_first else sorted(ENDINGS, key=lambda ending: ending in DECLARATIONS)
+        if requires and not types_first:
+            self.endings = [*REQUIRED_ENDINGS, *(ending for ending in self.endings if ending not in REQUIRED_ENDINGS)]
         self.takes = None  # of what endings files are, where not any
 
     def of_types(self):
         """The same for files of TypeScript alone."""
-        found = Ways(self.conditions, self.browser, self.types_first)
+        found = Ways(self.asked, self.browser, self.types_first, self.requires)
         found.takes = found.endings = tuple(ending for ending in ENDINGS if ending in TYPES)
         return found
 
     def turned(self, types_first):
         """The same with types first, or code."""
-        return Ways(self.conditions, self.browser, types_first)
+        return Ways(self.asked, self.browser, types_first, self.requires)
+
+    def of_require(self):
+        """The same of a call of require."""
+        return self if self.requires else Ways(self.asked, self.browser, self.types_first, True)
 
 
 class Folder:

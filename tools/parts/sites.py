@@ -11,12 +11,15 @@ from parts.words import MOST_BYTES, Wrong, plain
 
 SOURCES = (".ts", ".mts", ".cts", ".tsx", ".js", ".mjs", ".cjs", ".jsx")
 TYPESCRIPT = (".ts", ".mts", ".cts", ".tsx")
+# The kinds of a call of require.
+REQUIRES = ("import-equals", "import-equals-type")
 # How many bytes of texts one call of the program takes: written as JSON they may be six times as many.
 PART = 4_000_000
 # Of so many names it is known what their endings say.
 MOST_NAMES = 100_000
 # What likely names a module; only to read ahead, so that few calls are needed.
-HINT = re.compile(r"""\b(?:from|import)[\s(]{0,20}(?:"([^"\\\n]{1,500})"|'([^'\\\n]{1,500})')""")
+NAMED = r"""[\s(]{0,20}(?:"([^"\\\n]{1,500})"|'([^'\\\n]{1,500})')"""
+HINT, HINT_OR_CALL = re.compile(r"\b(?:from|import)" + NAMED), re.compile(r"\b(?:from|import|require)" + NAMED)
 
 Site = collections.namedtuple("Site", "kind value")
 Site.__doc__ = "kind: as the report has it, as import-type. value: the text of the specifier."
@@ -36,8 +39,8 @@ def is_typescript(place):
     return place.lower().endswith(TYPESCRIPT)
 
 
-def hints_in(text):
-    return list(dict.fromkeys(found[1] or found[2] for found in HINT.finditer(text)))
+def hints_in(text, has_calls=False):
+    return list(dict.fromkeys(found[1] or found[2] for found in (HINT_OR_CALL if has_calls else HINT).finditer(text)))
 
 
 def ending_of(place):
@@ -77,6 +80,7 @@ class Reader:
         self.program = program
         self.records = records
         self.compares = compares
+        self.choices = {}  # the keys of a bundle that say what an edge is
         self.of_data = {}  # of each data: URL that is met, those of what it holds
 
     # Whether files that are likely reached are read ahead, so that few calls are needed; and the most bytes of all files.
@@ -118,10 +122,10 @@ class Reader:
         if not names:
             return dict.fromkeys(contents, ())
         modules = [{"specifier": name, **contents[place]} for name, place in names.items()]
-        data = json.dumps({"roots": list(names), "limit": 1_000_000, "modules": modules}, ensure_ascii=False).encode("utf-8", "surrogatepass")
+        data = json.dumps({"roots": list(names), **self.choices, "limit": 1_000_000, "modules": modules}, ensure_ascii=False).encode("utf-8", "surrogatepass")
         if len(data) > MOST_BYTES:
             return dict.fromkeys(contents, ()) if len(contents) == 1 else self.halved(contents)
-        status, told = self.program.report(data)
+        status, told = self.program.report(data, True) if self.choices else self.program.report(data)
         found = dict.fromkeys(contents, ())
         for specifier, sites in sites_of(told).items() if status == 0 else ():
             if specifier in names:

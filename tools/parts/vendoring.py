@@ -127,13 +127,12 @@ class Plan:
 
     # ---- the files
 
-    def bundle_of_files(self, kind, content_of, json_without_attribute):
+    def bundle_of_files(self, kind, content_of, choices):
         """A bundle of the files, of which the program says whether their graph is the old one: its settings, and its modules."""
         modules = [{"specifier": "file:///" + name, **content_of(name, data)} for name, data in self.files.items()]
         modules += [{"specifier": entry.specifier, "external": True} for entry in self.graph.entries.values() if entry.kind() == "external"]
         roots = list(dict.fromkeys(self.new_name(root) for root in self.graph.roots))
-        choices = {**({"kind": kind} if kind else {}), **({"jsonWithoutAttribute": True} if json_without_attribute else {})}
-        return {"roots": roots, **choices, "limit": 1_000_000}, modules
+        return {"roots": roots, **({"kind": kind} if kind else {}), **choices, "limit": 1_000_000}, modules
 
     def new_name(self, specifier):
         end = self.graph.end_of(specifier)

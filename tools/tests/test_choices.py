@@ -1,12 +1,15 @@
-"""What ./joravelsu chooses beyond the program of the specification: JSON without an attribute."""
+"""What ./joravelsu chooses beyond the program of the specification: JSON without an attribute, and calls of require."""
 import json
 import os
 import subprocess
+import sys
 import tempfile
 import unittest
 
 TOOLS = os.path.dirname(os.path.dirname(os.path.abspath(__file__)))
 ROOT = os.path.dirname(TOOLS)
+sys.path.insert(0, TOOLS)
+from parts import resolve  # noqa: E402
 
 JORAVELSU = os.path.join(ROOT, "joravelsu")
 
@@ -54,6 +57,50 @@ class JsonWithoutAttribute(Project):
         self.assertEqual(self.ran("vendor", "-o", "out", "a.ts")[0], 0)
         with open(os.path.join(self.room, "out", "a.ts"), encoding="utf-8") as file:
             self.assertEqual(file.read(), self.FILES["a.ts"])
+
+
+class CommonJs(Project):
+    FILES = {
+        "package.json": {"name": "it"}, "data.json": {"a": 1}, "lib/a.js": 'module.exports = require("../index");', "lib/b.ts": "", "lib/b.js": "",
+        "index.js": 'const a = require("./lib/a"), fs = require("fs"), b = require("./lib"); require("dual"); require("plain"); require("./data");\n'
+                    'function f(require) { return require("./not-there") } import("./later.mjs"); require(f);',
+        "lib/index.js": 'require("./b"); require("node:path")', "later.mjs": 'import d from "dual"; export { d }',
+        "node_modules/dual/package.json": {"name": "dual", "exports": {"import": "./i.mjs", "require": "./r.cjs"}}, "node_modules/dual/i.mjs": "", "node_modules/dual/r.cjs": "",
+        "node_modules/plain/package.json": {"name": "plain", "main": "lib", "module": "lib/es.mjs"}, "node_modules/plain/lib/index.js": "", "node_modules/plain/lib/es.mjs": "",
+    }
+    # Worked out by the rules of Node's pages on modules and packages.
+    EDGES = """
+        index.js ./lib/a lib/a.js|index.js fs node:fs|index.js ./lib lib/index.js|index.js dual node_modules/dual/r.cjs|index.js plain node_modules/plain/lib/index.js
+        index.js ./data data.json|index.js ./later.mjs later.mjs|lib/a.js ../index index.js|lib/index.js ./b lib/b.js|lib/index.js node:path node:path
+        later.mjs dual node_modules/dual/i.mjs"""
+
+    def edges(self, *words):
+        status, out, told = self.ran("graph", "--json", *words)
+        self.assertEqual(status, 0, told)
+        plain = lambda url: (url or "").removeprefix("file:///")
+        return {" ".join((plain(entry["specifier"]), edge["specifier"], plain(edge.get("target")))) for entry in json.loads(out)["modules"] for edge in entry.get("edges", ())}
+
+    def test_calls_lead_where_node_leads_them(self):
+        self.put(self.FILES)
+        wanted = {row.strip() for line in self.EDGES.strip().split("\n") for row in line.split("|")}
+        self.assertEqual(self.edges("--commonjs", "index.js"), wanted)
+        self.assertEqual(self.edges("index.js"), {"index.js ./later.mjs later.mjs", "later.mjs dual node_modules/dual/i.mjs"})
+
+    def test_what_is_an_edge_is_not_unread(self):
+        self.put(self.FILES)
+        status, out, _ = self.ran("unread", "--commonjs", "index.js")
+        self.assertEqual((status, [line.split(":")[:2] for line in out.splitlines()]), (1, [["index.js", "2"], ["index.js", "2"]]))
+
+    def test_it_is_vendored(self):
+        self.put(self.FILES)
+        self.assertEqual(self.ran("vendor", "--commonjs", "-o", "out", "index.js")[0], 0)
+        with open(os.path.join(self.room, "out", "index.js"), encoding="utf-8") as file:
+            self.assertIn('require("./node_modules/dual/r.cjs"); require("./node_modules/plain/lib/index.js"); require("./data.json");', file.read())
+
+    def test_conditions_of_a_call(self):
+        value = {"node": {"types": "t1", "import": "n", "require": "r"}, "types": "t2", "import": "i", "require": ["s", {"default": "j"}], "default": "d"}
+        self.assertEqual(list(resolve.paths_of(value, resolve.Ways(requires=True))), ["r", "s", "j", "d", "t1", "t2"])
+        self.assertEqual(resolve.Ways(["a"]).of_require().conditions, {"a", "require", "node", "default"})
 
 
 if __name__ == "__main__":
