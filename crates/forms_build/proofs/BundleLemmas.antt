@@ -1,5 +1,5 @@
 -- No answer of such a bundle comes in any case.
-use Rattle.std.specs.Prelude.{Bool, false, List, Option, Some, None, Ok, Err, codes}
+use Rattle.std.specs.Prelude.{ℕ, Bool, false, List, Option, Some, None, Ok, Err, codes}
 use Rattle.std.specs.List.{list_any}
 use Rattle.std.proofs.Common.{◌≡◌, ap}
 use Rattle.serde_json.specs.Data.{Data, Members}
@@ -10,7 +10,7 @@ use Rattle.graph_bundle.specs.declared.chosen.ChosenBundle.{ChosenBundle}
 use Rattle.graph_bundle.specs.Bundle.{chosen_from_by}
 use Rattle.graph_bundle.proofs.BundleLemmas.{members_unforced}
 use Rattle.forms_build.specs.declared.bundle.FormsBundle.{FormsBundle}
-use Rattle.forms_build.specs.Bundle.{knows_forms, forms_from, forms_of}
+use Rattle.forms_build.specs.Bundle.{knows_forms, forms_from_by, forms_from, forms_of}
 
 -- what a choice and a bundle say together has the bundle
 forms_chosen : (commonjs : Reading Bool) (chosen : Reading ChosenBundle) (forms : FormsBundle)
@@ -22,6 +22,12 @@ forms_chosen (Ok commonjs) (Ok chosen) forms is =
     let same : record { chosen = chosen; commonjs = commonjs } ≡ forms = cc in
     ap (λ (f : FormsBundle). Ok f.chosen) same
 
+pub members_free : (knows : List ℕ → Bool) (value : Data) (members : Members) (forms : FormsBundle)
+    → forms_from_by knows value members ≡ Ok forms → list_any is_forced forms.chosen.bundle.arrival ≡ false
+members_free knows value members forms is =
+    members_unforced knows value members forms.chosen
+    (forms_chosen (optional bool_of false (codes "commonJs") value) (chosen_from_by knows value members) forms is)
+
 pub forms_unforced : (value : Data) (forms : FormsBundle) → forms_of value ≡ Ok forms
     → list_any is_forced forms.chosen.bundle.arrival ≡ false
 unfolding forms_of
@@ -30,7 +36,4 @@ forms_unforced value forms is = by (as_object value) is
     by : (o : Option Members) → and_then (forms_from value) (said o) ≡ Ok forms
         → list_any is_forced forms.chosen.bundle.arrival ≡ false
     by None is = absurd (cc)
-    by (Some members) is =
-        members_unforced knows_forms value members forms.chosen
-        (forms_chosen (optional bool_of false (codes "commonJs") value) (chosen_from_by knows_forms value members) forms
-        is)
+    by (Some members) is = members_free knows_forms value members forms is

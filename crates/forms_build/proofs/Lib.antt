@@ -1,2 +1,2 @@
-mod BundleLemmas
+pub mod BundleLemmas
 mod GraphLemmas

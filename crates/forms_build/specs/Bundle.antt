@@ -10,12 +10,15 @@ use Rattle.forms_build.specs.declared.bundle.FormsBundle.{FormsBundle}
 abbrev pub knows_forms : List ℕ → Bool
 knows_forms key = knows_chosen key || bytes_eq key (codes "commonJs")
 
--- the bundle that an object with these members says
-abbrev pub forms_from : Data → Members → Reading FormsBundle
-forms_from value members =
+-- the bundle that an object with these members says, of whose keys these are known
+abbrev pub forms_from_by : (List ℕ → Bool) → Data → Members → Reading FormsBundle
+forms_from_by knows value members =
     and_then (λ commonjs. and_then (λ chosen. Ok (record { chosen = chosen; commonjs = commonjs }))
-    (chosen_from_by knows_forms value members))
+    (chosen_from_by knows value members))
     (optional bool_of false (codes "commonJs") value)
+
+abbrev pub forms_from : Data → Members → Reading FormsBundle
+forms_from value members = forms_from_by knows_forms value members
 
 -- the bundle that a JSON value says
 unfoldable pub forms_of : Data → Reading FormsBundle

@@ -4,7 +4,7 @@ ghost use Rattle.serde_json.specs.Data.{Data};
 ghost use Rattle.serde_json.specs.View.{view, members_view};
 ghost use Rattle.graph_bundle.specs.Bundle.{IsJson};
 ghost use Rattle.graph_run.specs.Steps.{IsUnforced};
-ghost use Rattle.forms_build.specs.Bundle.{forms_of, forms_from};
+ghost use Rattle.forms_build.specs.Bundle.{forms_of, forms_from_by};
 ghost use Rattle.forms_build.specs.Bundle as spec;
 
 use base::Text;
@@ -58,35 +58,37 @@ fn forms_or_fault(alloc: Global, value: &Value) -> Result<FormsBundle, BundleFau
     }
 }
 
+/// The bundle that a value says.
 #[tactic(auto, unfolding(crate::specs::Bundle::forms_of))]
-fn forms_in(alloc: Global, value: &Value) -> Result<Reading<FormsBundle>, AllocError>
+pub fn forms_in(alloc: Global, value: &Value) -> Result<Reading<FormsBundle>, AllocError>
     ensures { IfOk result (λ b. b ≡ forms_of (view value.now)) }
 {
     match value.as_object() {
-        Some(members) => forms_with(alloc, value, members),
+        Some(members) => forms_with::<FormsKeys>(alloc, value, members),
         None => Ok(Err(Text::new(alloc))),
     }
 }
 
-fn forms_with(
+/// The bundle that an object with these members says, which has no key but `K`'s.
+pub fn forms_with<K: Keys>(
     alloc: Global,
     value: &Value,
     members: &Map<String, Value>,
 ) -> Result<Reading<FormsBundle>, AllocError>
-    ensures { IfOk result (λ b. b ≡ forms_from (view value.now) (members_view members.now.entries)) }
+    ensures { IfOk result (λ b. b ≡ forms_from_by K.knows (view value.now) (members_view members.now.entries)) }
 {
     let commonjs = match optional(alloc, value, "commonJs", false)? {
         Ok(commonjs) => commonjs,
         Err(at) => return Ok(Err(at)),
     };
-    match chosen_with::<FormsKeys>(alloc, value, members)? {
+    match chosen_with::<K>(alloc, value, members)? {
         Ok(chosen) => Ok(Ok(FormsBundle { chosen, commonjs })),
         Err(at) => Ok(Err(at)),
     }
 }
 
 /// The keys of such a bundle.
-struct FormsKeys;
+pub struct FormsKeys;
 
 impl Keys for FormsKeys {
     ghost knows = { spec.knows_forms };

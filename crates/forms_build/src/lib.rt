@@ -2,6 +2,7 @@
 //!
 //! - `take_forms(alloc, bytes)`: the bundle that a JSON text says (`forms_of`, `specs/Bundle.antt`), or the pointer to the
 //!   first thing for which it says none.
+//! - `forms_in`, `forms_with::<K>`, `FormsKeys`: what reads it, for objects with more keys.
 //! - `build_forms(rt, alloc, forms, batch)`: the graph of such a bundle (`IsGraphOf`, `specs/Forms.antt`), or that more is
 //!   reached than its limit. Its modules are analysed in batches, in threads.
 #![tactic(auto)]
@@ -10,4 +11,4 @@ mod build;
 mod bundle;
 
 pub use build::build_forms;
-pub use bundle::{FormsBundle, take_forms};
+pub use bundle::{FormsBundle, FormsKeys, forms_in, forms_with, take_forms};
