@@ -1,0 +1,18 @@
+-- What the members left lead to, all lead to.
+use Rattle.std.specs.Prelude.{List}
+use Rattle.std.proofs.Common.{◌≡◌, ℕ, length, false}
+use Rattle.es_token.specs.declared.token.Token.{Token}
+use Rattle.es_syntax.specs.Held.{held}
+use Rattle.dts_draft.specs.Drafts.{state_of}
+use Rattle.dts_kept.proofs.MemberLemmas.{MembersLeft}
+use Rattle.dts_kept.proofs.members.all_members.Given as goal
+
+abbrev pub invariant-loop-turn : goal.invariant-loop-turn
+invariant-loop-turn l =
+    (l.out.failed ≡ false → l.initial.out.failed ≡ false)
+    × (state_of l.out ≡ state_of l.initial.out)
+    × (l.out.failed ≡ false → (x : List ℕ) (ts : List Token) → MembersLeft x ts l.initial.out.row l.out.row
+    (held x ts l.members.entries.now) (held x ts l.row.entries.now))
+
+abbrev pub decreases-loop-turn : goal.decreases-loop-turn
+decreases-loop-turn l = length l.row.entries.now

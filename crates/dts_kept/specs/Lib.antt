@@ -1,0 +1,2 @@
+-- types as they stand, and frozen
+pub mod Kept
