@@ -8,11 +8,11 @@ NAME = "joravelsu.json"
 # The keys, each with the option that it stands for, and its shape: a text, a list of texts, or whether.
 KEYS = {
     "roots": ("roots", list), "folder": ("folder", str), "kind": ("kind", str), "tsconfig": ("tsconfig", str), "deno": ("deno", str), "also": ("also", list),
-    "exclude": ("exclude", list), "external": ("external", list), "conditions": ("conditions", list), "failOn": ("fail_on", list), "all": ("all", bool),
+    "exclude": ("exclude", list), "external": ("external", list), "conditions": ("conditions", list), "failOn": ("fail_on", list), "policy": ("policy", str), "all": ("all", bool),
     "packages": ("packages", bool), "browser": ("browser", bool), "commonJs": ("commonjs", bool), "linksOut": ("links_out", bool),
 }
 # Options whose values are paths from the file's folder.
-PATHS = ("roots", "folder", "tsconfig", "deno")
+PATHS = ("roots", "folder", "tsconfig", "deno", "policy")
 
 
 def file_above(at):

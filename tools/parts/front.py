@@ -5,7 +5,7 @@ import json
 import os
 import sys
 
-from parts import builder, bundles, config, faults, kit, packing, program, project, records, report, resolve, sites, unproved
+from parts import builder, bundles, config, faults, kit, packing, policy, program, project, records, report, resolve, sites, unproved
 from parts.words import Wrong, plain, read_regular
 from parts.words import say as said
 
@@ -42,6 +42,9 @@ class Run:
         self.asked = asked
         self.paths = []
         self.configure(choices)
+        self.rules = policy.Policy(asked.policy) if getattr(asked, "policy", None) else None
+        # Rules are asked of a bundle, which the library has none of.
+        asked.loader = "program" if self.rules else asked.loader
         asked.roots = list(self.roots(asked.roots or [asked.folder or project.named_above(os.getcwd())]))
         # Calls of require are edges of the second program's graphs alone.
         self.program = made_program("program" if asked.commonjs else asked.loader)
@@ -60,6 +63,9 @@ class Run:
             status, self.report = self.program.graph(packer.settings(roots, len(modules)), modules)
         if status:
             raise Wrong(f"there is no graph: {self.report.decode().strip()}")
+        if self.rules:
+            asked.files.append(asked.policy)
+            self.rules.ask(self.program, data)
         self.bundle = bundles.Bundle.of_contents(packer.by_specifier())
 
     @functools.cached_property

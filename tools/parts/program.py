@@ -58,6 +58,11 @@ class Program:
         """The status, and what the program writes for a bundle, which may have the second program's keys."""
         return self.answer("build", bundle, has_choices)
 
+    def policy(self, bundle, rules):
+        """The status, and what the second program says of rules on the graph of a bundle."""
+        value = {**json.loads(bundle), "policy": rules}
+        return self.answer("policy", json.dumps(value, ensure_ascii=False).encode("utf-8", "surrogatepass"), True)
+
     def graph(self, settings, modules):
         """The status and the report of the graph of a bundle, by its modules and what else it has."""
         value = {**settings, "modules": modules}

@@ -17,16 +17,17 @@ RULES = {
     "DataUrl": "A data: URL holds nothing", "PackageReference": "A specifier names no package", "InvalidDowngrade": "An import leads from https to http",
     "InvalidLocalImport": "An import leads from the web to a local file", "InvalidTypeAssertion": "An import attribute doesn't fit the module",
     "InvalidSourcePhase": "A source is imported of what isn't WebAssembly", "Refused": "An import map refuses a specifier",
-    "unread": "A call that may load a module and is no edge", "cycle": "Modules that load each other",
+    "policy": "A rule forbids an entry or an edge", "unread": "A call that may load a module and is no edge", "cycle": "Modules that load each other",
 }
 
 
 class Verdict:
     def __init__(self, run, summary, found, rows, fail_on):
         """run: the run; summary: its counts; found: its faults; rows: what is unread; fail_on: words of --fail-on."""
-        self.run, self.summary, self.faults, self.rows, self.fail_on = run, summary, found, rows, fail_on
+        self.run, self.summary, self.faults, self.rows, self.fail_on, self.rules = run, summary, found, rows, fail_on, getattr(run, "rules", None)
         self.words = summary.what_is_there() | ({"unread"} if rows else set())
-        self.status = 1 if self.words & set(fail_on) else 0
+        self.breach = self.rules.breach if self.rules else None
+        self.status = 1 if self.breach or self.words & set(fail_on) else 0
 
     def line(self):
         said = report.counted(len(self.faults), "fault", "faults") if self.faults else "no faults"
@@ -40,6 +41,10 @@ class Verdict:
             source = self.run.bundle.source(fault.specifier) if fault.start is not None else None
             place = source.place(fault.start) if source else None
             yield Found("error", fault.kind, fault.what, fault.specifier, fault.start, fault.end, place, fault)
+        if self.breach:
+            source = self.run.bundle.source(self.breach.specifier) if self.breach.start is not None else None
+            place = source.place(self.breach.start) if source else None
+            yield Found("error", "policy", self.breach.what, self.breach.specifier, self.breach.start, self.breach.end, place, self.breach)
         for row in self.rows:
             specifier, line, column, word, argument, own = row
             hint = ", unless it is a require of the file itself" if own else ""
@@ -54,8 +59,10 @@ class Verdict:
         from parts import kit
 
         found = [line for fault in self.faults for line in faults.lines_of(fault, self.run.bundle, self.run.front)]
+        if self.breach:
+            found += faults.lines_of(faults.Fault("Policy", *self.breach), self.run.bundle, self.run.front)
         found += kit.tool("unread").lines_of(self.rows, self.run.front)
-        return [*found, *[""] * bool(found), *self.summary.lines(), self.line()]
+        return [*found, *[""] * bool(found), *self.summary.lines(), *([self.rules.line()] if self.rules else []), self.line()]
 
     # ---- JSON
 
@@ -75,9 +82,10 @@ class Verdict:
             "roots": graph.roots,
             "counts": {"entries": len(graph.entries), **{f"{kind}s": states[kind] for kind in ("module", "package", "redirect", "external", "error")},
                        "edges": len(edges), "edgesWithoutTarget": sum(1 for edge in edges if edge.fault)},
-            "faults": [self.fault_value(found) for found in self.found() if found.rule not in ("unread", "cycle")],
+            "faults": [self.fault_value(found) for found in self.found() if found.rule not in ("policy", "unread", "cycle")],
             "unread": [{**self.where(found), "call": found.cause[3], "argument": found.cause[4], "maybeOwn": found.cause[5]} for found in self.found() if found.rule == "unread"],
             "cycles": [[entry.specifier for entry in part] for part in self.summary.cycles],
+            **({"policy": self.rules.value(next((self.where(found) for found in self.found() if found.rule == "policy"), {}))} if self.rules else {}),
             **({"unreached": self.summary.unreached} if self.summary.unreached is not None else {}),
         }
 

@@ -1,4 +1,4 @@
-"""What ./joravelsu chooses beyond the program of the specification: JSON without an attribute, and calls of require."""
+"""What ./joravelsu chooses beyond the program of the specification: JSON without an attribute, calls of require, and rules."""
 import json
 import os
 import subprocess
@@ -10,6 +10,7 @@ TOOLS = os.path.dirname(os.path.dirname(os.path.abspath(__file__)))
 ROOT = os.path.dirname(TOOLS)
 sys.path.insert(0, TOOLS)
 from parts import resolve  # noqa: E402
+from tests.test_graph_tools import faults_of  # noqa: E402
 
 JORAVELSU = os.path.join(ROOT, "joravelsu")
 
@@ -101,6 +102,52 @@ class CommonJs(Project):
         value = {"node": {"types": "t1", "import": "n", "require": "r"}, "types": "t2", "import": "i", "require": ["s", {"default": "j"}], "default": "d"}
         self.assertEqual(list(resolve.paths_of(value, resolve.Ways(requires=True))), ["r", "s", "j", "d", "t1", "t2"])
         self.assertEqual(resolve.Ways(["a"]).of_require().conditions, {"a", "require", "node", "default"})
+
+
+class Rules(Project):
+    FILES = {"package.json": {}, "src/a.ts": 'import "./b";\nimport type { T } from "../vendor/t";\nimport("./c.test");', "src/b.ts": "export {};", "src/c.test.ts": "export {};", "vendor/t.ts": "export type T = 1;"}
+
+    def setUp(self):
+        super().setUp()
+        self.put(self.FILES)
+
+    def checked(self, rules, *more):
+        self.put({"rules.json": rules})
+        return self.ran("check", "--policy", "rules.json", *more, "src/a.ts")
+
+    def test_nothing_is_forbidden(self):
+        for rules in ({}, {"forbidden": [{"to": {"path": "*/vendor/*", "typeOnly": False}}]}, {"allowed": [{"from": {"path": "file:///*"}}]},
+                      {"modules": {"allowed": [{"module": {"scheme": ["file", "npm"]}}]}}):
+            status, out, _ = self.checked(rules)
+            self.assertEqual((status, out.splitlines()[-2:]), (0, ["rules: 7 entries and edges looked at, none forbidden", "no faults; status 0"]))
+
+    def test_a_forbidden_edge(self):
+        status, out, _ = self.checked({"forbidden": [{"to": {"kind": "dynamic", "path": "*.js"}}, {"name": "no tests", "comment": "they aren't shipped", "to": {"path": "*.test.ts"}}]})
+        self.assertEqual((status, out.splitlines()[:3]), (1, ['src/a.ts:3:8: "./c.test": "no tests" forbids it: they aren\'t shipped', '    import("./c.test");', "           ^~~~~~~~~~"]))
+        self.assertEqual(out.splitlines()[-2:], ["rules: one forbids something", "no faults; status 1"])
+
+    def test_the_first_in_the_order_of_the_report(self):
+        rules = {"modules": {"forbidden": [{"module": {"path": "*.ts", "pathNot": ["*/a.ts", "*/b.ts"]}}]}}
+        self.assertEqual(self.checked(rules)[1].splitlines()[0], "src/c.test.ts: rule 0 forbids it")
+
+    def test_what_no_rule_allows(self):
+        status, out, _ = self.checked({"allowed": [{"to": {"path": "*/src/*"}}]})
+        self.assertEqual((status, out.splitlines()[0]), (1, 'src/a.ts:2:24: "../vendor/t": no rule of allowed fits it'))
+
+    def test_rules_that_are_none(self):
+        for rules, at in (([], "/"), ({"forbidden": [{"from": {"pathNot": 1}}]}, "/forbidden/0/from/pathNot"), ({"forbid": []}, "/forbid"), ({"modules": {"allowed": [{"modul": {}}]}}, "/modules/allowed/0/modul")):
+            status, out, told = self.checked(rules)
+            self.assertEqual((status, out, told), (2, "", f"joravelsu: rules.json: no rules: {at}\n"))
+
+    def test_as_json(self):
+        with open(os.path.join(ROOT, "docs", "check.schema.json"), encoding="utf-8") as file:
+            schema = json.load(file)
+        for rules, wanted in (({}, {"kept": 7}), ({"forbidden": [{"to": {"typeOnly": True}}]},
+                                                   {"breach": {"specifier": "file:///src/a.ts", "file": "src/a.ts", "line": 2, "column": 24, "message": '"../vendor/t": rule 0 forbids it'}})):
+            value = json.loads(self.checked(rules, "--json")[1])
+            self.assertEqual(list(faults_of(value, schema, schema)), [])
+            self.assertEqual(value["policy"], wanted)
+        self.assertIn("title=joravelsu policy::", self.checked({"forbidden": [{}]}, "--github")[1])
 
 
 if __name__ == "__main__":

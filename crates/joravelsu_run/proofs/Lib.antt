@@ -1,2 +1,4 @@
+pub mod AskedLemmas
 pub mod DueLemmas
+pub mod WordLemmas
 pub mod RunLemmas

@@ -1,26 +1,26 @@
--- What is due for a bundle with choices, by the form that the arguments are.
-use Rattle.std.specs.Prelude.{◌≡◌, ℕ, ◌+◌, ◌<◌, ◌≤◌, List, length, map, Option, Ok, Err, IfSome}
+-- What is due for an input, by the form that the arguments are.
+use Rattle.std.specs.Prelude.{◌≡◌, ◌⊎◌, ℕ, ◌+◌, ◌<◌, ◌≤◌, List, length, Option, Ok, Err, IfSome}
 use Rattle.serde_json.specs.Data.{Data}
-use Rattle.graph_entry.specs.Reading.{ReadsSource}
-use Rattle.graph_entry.specs.Ways.{ways_by}
-use Rattle.graph_entry.specs.Analysed.{AnalysedBy}
-use Rattle.graph_entry.specs.Referrer.{referred_by}
-use Rattle.graph_builder.specs.Rules.{Rules, rules_by}
-use Rattle.graph_builder.specs.Graph.{GraphData, IsGraph}
+use Rattle.graph_builder.specs.Graph.{GraphData}
 use Rattle.graph_builder.specs.Memory.{tells}
-use Rattle.graph_builder.specs.Builder.{following_of, json_allowed}
 use Rattle.forms_build.specs.declared.bundle.FormsBundle.{FormsBundle}
 use Rattle.forms_build.specs.Forms.{forms_rules, IsGraphOf}
-use Rattle.forms_build.specs.Bundle.{forms_of}
 use Rattle.graph_bundle.specs.Bundle.{IsJson}
 use Rattle.graph_report.specs.Report.{report_of}
 use Rattle.graph_report.specs.Orders.{IsOrderText}
 use Rattle.counted_io.specs.Transfer.{input_limit}
 use Rattle.graph_run.specs.declared.status.Status.{Status}
 use Rattle.graph_run.specs.declared.status.Status.TheVariants.{Done, BuildRefused, BadInput}
-use Rattle.graph_run.specs.Run.{HasMoreThan, bundle_resolving, bundle_resolves, bundle_starts, too_long_line, not_json_line, no_bundle_line, too_many_line}
+use Rattle.graph_run.specs.Run.{HasMoreThan, bundle_starts, too_long_line, not_json_line, no_bundle_line, too_many_line}
 use Rattle.joravelsu_run.specs.declared.words.Form.{Form}
-use Rattle.joravelsu_run.specs.declared.words.Form.TheVariants.{Build, Order}
+use Rattle.joravelsu_run.specs.declared.words.Form.TheVariants as form
+use Rattle.joravelsu_run.specs.declared.asked.Telling.{Telling}
+use Rattle.joravelsu_run.specs.declared.asked.Telling.TheVariants.{Report, Order, Groups, Way, Verdict}
+use Rattle.joravelsu_run.specs.declared.asked.Asked.{Asked}
+use Rattle.joravelsu_run.specs.Asked.{asked_of}
+use Rattle.joravelsu_run.specs.Groups.{IsGroupsText}
+use Rattle.joravelsu_run.specs.Ways.{IsWayText}
+use Rattle.joravelsu_run.specs.Verdicts.{verdict_status, verdict_line}
 
 -- more is reached than the bundle allows
 abbrev pub IsTooLarge : FormsBundle → Type 0
@@ -30,26 +30,31 @@ IsTooLarge forms =
 
 -- ---- what is due
 
--- what a form has told of a graph: its report, or the order of its modules
-abbrev pub Tells : Form → GraphData → List ℕ → Type 0
-Tells Build graph text = text ≡ report_of graph
-Tells Order graph text = IsOrderText graph text
+-- what is told of a graph, and how that ends: its report, the order of its modules, their groups, a way to a specifier, or what
+-- rules say of it
+abbrev pub Tells : Telling → GraphData → Status → List ℕ → Type 0
+Tells Report graph status text = (status ≡ Done) × (text ≡ report_of graph)
+Tells Order graph status text = (status ≡ Done) × IsOrderText graph text
+Tells Groups graph status text = (status ≡ Done) × IsGroupsText graph text
+Tells (Way following to) graph status text = (status ≡ Done) × IsWayText graph following to text
+Tells (Verdict policy) graph status text =
+    (status ≡ verdict_status policy graph) × (text ≡ verdict_line policy graph)
 
--- what is due for a bundle with choices
-pub data OfBundle (form : Form) (forms : FormsBundle) (status : Status) (text : List ℕ) : Type 0 where
-  -- that of its graph
-  graph : (graph : GraphData) → IsGraphOf forms graph → status ≡ Done → Tells form graph text
-      → OfBundle form forms status text
+-- what is due for what an input says
+pub data OfAsked (asked : Asked) (status : Status) (text : List ℕ) : Type 0 where
+  -- what is told of the graph of its bundle
+  graph : (graph : GraphData) → IsGraphOf asked.forms graph → Tells asked.telling graph status text
+      → OfAsked asked status text
   -- it is too large
-  large : IsTooLarge forms → status ≡ BuildRefused → text ≡ too_many_line (forms.chosen.bundle.options.limit + 1)
-      → OfBundle form forms status text
+  large : IsTooLarge asked.forms → status ≡ BuildRefused
+      → text ≡ too_many_line (asked.forms.chosen.bundle.options.limit + 1) → OfAsked asked status text
 
--- the input is a JSON text of this bundle with choices, and not too long
-pub record IsInput (input : List ℕ) (forms : FormsBundle) : Type 0 where
+-- the input is a JSON text that says this for the form, and not too long
+pub record IsInput (form : Form) (input : List ℕ) (asked : Asked) : Type 0 where
   pub within : length input ≤ input_limit
   pub value : Data
   pub json : IsJson input value
-  pub says : forms_of value ≡ Ok forms
+  pub says : asked_of form value ≡ Ok asked
 
 -- what is due for an input
 pub data IsDue (form : Form) (input : List ℕ) (status : Status) (text : List ℕ) : Type 0 where
@@ -58,12 +63,11 @@ pub data IsDue (form : Form) (input : List ℕ) (status : Status) (text : List �
   -- else it is no JSON text
   no_json : length input ≤ input_limit → ((value : Data) → ¬ IsJson input value) → status ≡ BadInput
       → text ≡ not_json_line → IsDue form input status text
-  -- else its value is no bundle with choices: the pointer to the first thing for which it is none
+  -- else its value doesn't say what the form asks for: the pointer to the first thing that keeps it from that
   no_bundle : length input ≤ input_limit → (value : Data) → IsJson input value → (at : List ℕ)
-      → forms_of value ≡ Err at → status ≡ BadInput → text ≡ no_bundle_line at → IsDue form input status text
-  -- what is due for its bundle
-  bundle : (forms : FormsBundle) → IsInput input forms → OfBundle form forms status text
-      → IsDue form input status text
+      → asked_of form value ≡ Err at → status ≡ BadInput → text ≡ no_bundle_line at → IsDue form input status text
+  -- what is due for what it says
+  bundle : (asked : Asked) → IsInput form input asked → OfAsked asked status text → IsDue form input status text
 
 -- for an input, where it is told
 abbrev pub IsDueForm : Form → Option (List ℕ) → Status → List ℕ → Type 0
@@ -71,18 +75,23 @@ IsDueForm form input status text = IfSome input (λ bytes. IsDue form bytes stat
 
 -- ---- what an input is
 
--- no bundle with choices, or too long
-abbrev pub IsRefused : List ℕ → Type 0
-IsRefused input = (forms : FormsBundle) → ¬ IsInput input forms
+-- it doesn't say what the form asks for, or is too long
+abbrev pub IsRefused : Form → List ℕ → Type 0
+IsRefused form input = (asked : Asked) → ¬ IsInput form input asked
 
 -- one whose graph is too large
-pub record IsLargeInput (input : List ℕ) : Type 0 where
-  pub forms : FormsBundle
-  pub says : IsInput input forms
-  pub large : IsTooLarge forms
+pub record IsLargeInput (form : Form) (input : List ℕ) : Type 0 where
+  pub asked : Asked
+  pub says : IsInput form input asked
+  pub large : IsTooLarge asked.forms
 
 -- one whose graph is not too large
-pub record IsSmallInput (input : List ℕ) : Type 0 where
-  pub forms : FormsBundle
-  pub says : IsInput input forms
-  pub small : ¬ IsTooLarge forms
+pub record IsSmallInput (form : Form) (input : List ℕ) : Type 0 where
+  pub asked : Asked
+  pub says : IsInput form input asked
+  pub small : ¬ IsTooLarge asked.forms
+
+-- how a form may end where it is told of a graph: rules may forbid something
+abbrev pub Ends : Form → Status → Type 0
+Ends form.Policy status = (status ≡ Done) ⊎ (status ≡ BuildRefused)
+Ends _ status = status ≡ Done

@@ -1,4 +1,8 @@
 pub mod Words
+pub mod Asked
+pub mod Groups
+pub mod Ways
+pub mod Verdicts
 pub mod Due
 pub mod Run
 -- what the functions inside the crate promise each other

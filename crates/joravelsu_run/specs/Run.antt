@@ -1,5 +1,5 @@
 -- What the program writes, for all its arguments.
-use Rattle.std.specs.Prelude.{◌≡◌, ℕ, List, ◌++◌, codes, Option}
+use Rattle.std.specs.Prelude.{◌≡◌, ◌⊎◌, ℕ, List, ◌++◌, codes, Option}
 use Rattle.std.specs.Io.KnownBytes.{Appends, Keeps}
 use Rattle.graph_report.specs.Report.{line_end}
 use Rattle.counted_io.specs.Transfer.{TookPart}
@@ -10,7 +10,7 @@ use Rattle.joravelsu_run.specs.Words.{IsForm, IsNoForm}
 use Rattle.joravelsu_run.specs.Due.{IsDueForm}
 
 abbrev pub usage_line : List ℕ
-usage_line = codes "usage: joravelsu_tool build | order" ++ line_end
+usage_line = codes "usage: joravelsu_tool build | order | groups | why | policy" ++ line_end
 
 -- what is due for words
 pub data IsDueFor (words : List (List ℕ)) (input : Option (List ℕ)) (status : Status) (text : List ℕ) : Type 0 where
@@ -37,3 +37,8 @@ Wrote words input old new ReadFault = Keeps old new
 Wrote words input old new WriteFault = WrotePart words input old new
 Wrote words input old new NoMemory = Keeps old new
 Wrote words input old new Usage = WroteDue words input old new Usage
+
+-- where no count of faults rose and memory sufficed, this is so of the status
+abbrev pub Comes : ℕ → ℕ → ℕ → ℕ → Status → (Status → Type 0) → Type 0
+Comes reads_old reads_new writes_old writes_new result due =
+    reads_new ≡ reads_old → writes_new ≡ writes_old → due result ⊎ (result ≡ NoMemory)

@@ -2,13 +2,17 @@
 ghost use Rattle.std.specs.Prelude.{◌≡◌, ◌≤◌, IfOk, length, string_bytes};
 ghost use Rattle.counted_io.specs.Transfer.{input_limit};
 ghost use Rattle.graph_run.specs.Run.{too_many_line};
-ghost use Rattle.graph_run.specs.Steps.{IsEnd};
+ghost use Rattle.graph_run.specs.Steps.{IsEnd, IsVerdict};
 ghost use Rattle.joravelsu_run.specs.Due.{IsDue, Tells};
 ghost use Rattle.joravelsu_run.specs.Steps.{OfEnd};
 
+use crate::asked::{Asked, Telling, take_asked};
+use crate::groups::group_lines;
+use crate::verdicts::verdict_due;
+use crate::ways::way_lines;
 use crate::words::Form;
 use deno_graph::{BuildError, ModuleGraph};
-use forms_build::{build_forms, take_forms};
+use forms_build::build_forms;
 use graph_report::{order_lines, report};
 use graph_run::{Due, Status, due_for_fault};
 use std::alloc::{AllocError, Global};
@@ -25,10 +29,14 @@ pub fn due_for<R: Threads + Sync>(
     form: Form,
 ) -> Result<Due, AllocError>
     requires { length bytes.items ≤ input_limit }
-    ensures { IfOk result (λ due. IsDue form bytes.items due.status (string_bytes due.text)) }
+    ensures due { IfOk result (λ due. IsDue form bytes.items due.status (string_bytes due.text)) }
+    ensures verdict { IfOk result (λ due. IsVerdict due.status) }
 {
-    match take_forms(alloc, bytes) {
-        Ok(forms) => due_for_end(alloc, build_forms(rt, alloc, forms, BATCH), form),
+    match take_asked(alloc, bytes, form) {
+        Ok(asked) => {
+            let Asked { forms, telling } = asked;
+            due_for_end(alloc, build_forms(rt, alloc, forms, BATCH), &telling)
+        }
         Err(fault) => due_for_fault(alloc, fault),
     }
 }
@@ -37,13 +45,14 @@ pub fn due_for<R: Threads + Sync>(
 fn due_for_end(
     alloc: Global,
     end: Result<ModuleGraph, BuildError>,
-    form: Form,
+    telling: &Telling,
 ) -> Result<Due, AllocError>
     requires { IsEnd end }
-    ensures { IfOk result (λ due. OfEnd form end due.status (string_bytes due.text)) }
+    ensures due { IfOk result (λ due. OfEnd telling.now end due.status (string_bytes due.text)) }
+    ensures verdict { IfOk result (λ due. IsVerdict due.status) }
 {
     match end {
-        Ok(graph) => done(alloc, &graph, form),
+        Ok(graph) => told(alloc, &graph, telling),
         Err(BuildError::TooManyModules { seen }) => too_large(alloc, seen),
         Err(BuildError::OutOfMemory) => Err(AllocError),
         Err(BuildError::NotYet) => unreachable!(),
@@ -52,21 +61,26 @@ fn due_for_end(
     }
 }
 
-fn done(alloc: Global, graph: &ModuleGraph, form: Form) -> Result<Due, AllocError>
-    ensures { IfOk result (λ due. (due.status ≡ Status.Done) × Tells form graph.now (string_bytes due.text)) }
+fn told(alloc: Global, graph: &ModuleGraph, telling: &Telling) -> Result<Due, AllocError>
+    ensures due { IfOk result (λ due. Tells telling.now graph.now due.status (string_bytes due.text)) }
+    ensures verdict { IfOk result (λ due. IsVerdict due.status) }
 {
-    Ok(Due {
-        status: Status::Done,
-        text: told_text(alloc, graph, form)?,
-    })
+    match telling {
+        Telling::Report => Ok(done(report(alloc, graph)?)),
+        Telling::Order => Ok(done(order_lines(alloc, graph)?)),
+        Telling::Groups => Ok(done(group_lines(alloc, graph)?)),
+        Telling::Way(following, to) => Ok(done(way_lines(alloc, graph, *following, to)?)),
+        Telling::Verdict(policy) => verdict_due(alloc, policy, graph),
+    }
 }
 
-fn told_text(alloc: Global, graph: &ModuleGraph, form: Form) -> Result<String, AllocError>
-    ensures { IfOk result (λ text. Tells form graph.now (string_bytes text)) }
+fn done(text: String) -> Due
+    ensures status { result.status ≡ Status.Done }
+    ensures text { result.text ≡ text }
 {
-    match form {
-        Form::Build => report(alloc, graph),
-        Form::Order => order_lines(alloc, graph),
+    Due {
+        status: Status::Done,
+        text,
     }
 }
 

@@ -2,12 +2,12 @@
 ghost use Rattle.std.specs.Prelude.{◌≡◌, ◌+◌, ◌↔◌, map, IfSome, IfOk, IfErr, MatchResult, string_bytes};
 ghost use Rattle.std.specs.Io.KnownBytes.{IsAtEnd};
 ghost use Rattle.counted_io.specs.Transfer.{input_limit, ReadAtMost};
-ghost use Rattle.graph_run.specs.Run.{ReadsCounted, WritesCounted, Always};
+ghost use Rattle.graph_run.specs.Run.{ReadsCounted, WritesCounted};
 ghost use Rattle.graph_run.specs.Steps.{IsVerdict, IsStop, IsWritten};
-ghost use Rattle.joravelsu_run.specs.Words.{IsNoForm, IsReading};
-ghost use Rattle.joravelsu_run.specs.Due.{IsDueForm, IsRefused, IsLargeInput, IsSmallInput};
-ghost use Rattle.joravelsu_run.specs.Run.{Wrote};
-ghost use Rattle.joravelsu_run.specs.Steps.{WroteForm, Comes};
+ghost use Rattle.joravelsu_run.specs.Words.{IsForm, IsNoForm, IsReading};
+ghost use Rattle.joravelsu_run.specs.Due.{IsDueForm, IsRefused, IsLargeInput, IsSmallInput, Ends};
+ghost use Rattle.joravelsu_run.specs.Run.{Wrote, Comes};
+ghost use Rattle.joravelsu_run.specs.Steps.{WroteForm};
 
 use crate::due::due_for;
 use crate::words::{Form, form_of};
@@ -16,8 +16,9 @@ use std::alloc::Global;
 use std::thread::Threads;
 
 /// Runs the program with the arguments after its name. With `build` it reads a bundle with choices from the source and writes
-/// the report of its graph, or the line of a refusal; with `order` the order of its modules, or a cycle of them. Other arguments
-/// get the usage line. The analyses of a batch of modules run in threads.
+/// the report of its graph, or the line of a refusal; with `order` the order of its modules, or a cycle of them; with `groups`
+/// their groups; with `why` a shortest way to the bundle's specifier; with `policy` the first thing that the bundle's rules
+/// forbid. Other arguments get the usage line. The analyses of a batch of modules run in threads.
 pub fn run<R: Threads + Sync, S: Source, K: Sink>(
     rt: &R,
     alloc: Global,
@@ -34,23 +35,30 @@ pub fn run<R: Threads + Sync, S: Source, K: Sink>(
     ensures unread { IsNoForm (map string_bytes words.now) → source.new ≡ source.old }
     ensures reads { ReadsCounted (S.faults source.old) (S.faults source.new) result }
     ensures writes { WritesCounted (K.faults sink.old) (K.faults sink.new) result }
-    ensures refused { IfSome (S.left source.old) (λ input. IsRefused input → Always (IsReading (map string_bytes words.now))
-        (S.faults source.old) (S.faults source.new) (K.faults sink.old) (K.faults sink.new) result Status.BadInput) }
-    ensures large { IfSome (S.left source.old) (λ input. IsLargeInput input → Always (IsReading (map string_bytes words.now))
-        (S.faults source.old) (S.faults source.new) (K.faults sink.old) (K.faults sink.new) result Status.BuildRefused) }
+    ensures refused { (form : Form) → IsForm form (map string_bytes words.now) → IfSome (S.left source.old) (λ input.
+        IsRefused form input → Comes (S.faults source.old) (S.faults source.new) (K.faults sink.old) (K.faults sink.new)
+        result (λ status. status ≡ Status.BadInput)) }
+    ensures large { (form : Form) → IsForm form (map string_bytes words.now) → IfSome (S.left source.old) (λ input.
+        IsLargeInput form input → Comes (S.faults source.old) (S.faults source.new) (K.faults sink.old) (K.faults sink.new)
+        result (λ status. status ≡ Status.BuildRefused)) }
     // And when there is one.
-    ensures complete { IfSome (S.left source.old) (λ input. IsSmallInput input → Always (IsReading (map string_bytes words.now))
-        (S.faults source.old) (S.faults source.new) (K.faults sink.old) (K.faults sink.new) result Status.Done) }
+    ensures complete { (form : Form) → IsForm form (map string_bytes words.now) → IfSome (S.left source.old) (λ input.
+        IsSmallInput form input → Comes (S.faults source.old) (S.faults source.new) (K.faults sink.old) (K.faults sink.new)
+        result (Ends form)) }
     // Reading stops at the first byte too many.
     ensures stops { ReadAtMost (input_limit + 1) (S.left source.old) (S.left source.new) }
 {
     match form_of(words) {
         Some(form) => run_form(rt, alloc, form, source, sink),
-        None => finish(sink, Status::Usage, "usage: joravelsu_tool build | order\n"),
+        None => finish(
+            sink,
+            Status::Usage,
+            "usage: joravelsu_tool build | order | groups | why | policy\n",
+        ),
     }
 }
 
-/// Reads a bundle with choices, and writes what a form has of it.
+/// Reads an input, and writes what a form has of it.
 fn run_form<R: Threads + Sync, S: Source, K: Sink>(
     rt: &R,
     alloc: Global,
@@ -62,12 +70,12 @@ fn run_form<R: Threads + Sync, S: Source, K: Sink>(
     ensures ended { result ≡ Status.Done → IsAtEnd (S.left source.new) }
     ensures reads { ReadsCounted (S.faults source.old) (S.faults source.new) result }
     ensures writes { WritesCounted (K.faults sink.old) (K.faults sink.new) result }
-    ensures refused { IfSome (S.left source.old) (λ input. IsRefused input → Comes (S.faults source.old) (S.faults source.new)
-        (K.faults sink.old) (K.faults sink.new) result Status.BadInput) }
-    ensures large { IfSome (S.left source.old) (λ input. IsLargeInput input → Comes (S.faults source.old)
-        (S.faults source.new) (K.faults sink.old) (K.faults sink.new) result Status.BuildRefused) }
-    ensures complete { IfSome (S.left source.old) (λ input. IsSmallInput input → Comes (S.faults source.old)
-        (S.faults source.new) (K.faults sink.old) (K.faults sink.new) result Status.Done) }
+    ensures refused { IfSome (S.left source.old) (λ input. IsRefused form input → Comes (S.faults source.old)
+        (S.faults source.new) (K.faults sink.old) (K.faults sink.new) result (λ status. status ≡ Status.BadInput)) }
+    ensures large { IfSome (S.left source.old) (λ input. IsLargeInput form input → Comes (S.faults source.old)
+        (S.faults source.new) (K.faults sink.old) (K.faults sink.new) result (λ status. status ≡ Status.BuildRefused)) }
+    ensures complete { IfSome (S.left source.old) (λ input. IsSmallInput form input → Comes (S.faults source.old)
+        (S.faults source.new) (K.faults sink.old) (K.faults sink.new) result (Ends form)) }
     ensures stops { ReadAtMost (input_limit + 1) (S.left source.old) (S.left source.new) }
 {
     match read_due(rt, alloc, source, form) {

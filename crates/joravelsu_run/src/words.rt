@@ -9,6 +9,12 @@ pub enum Form {
     Build,
     /// `order`: the order of its modules, or a cycle of them.
     Order,
+    /// `groups`: the groups of its modules that import each other, in order.
+    Groups,
+    /// `why`: a shortest way to the specifier that is read with it.
+    Why,
+    /// `policy`: what the rules that are read with it say of its graph.
+    Policy,
 }
 
 /// The form of the program that the arguments are.
@@ -27,6 +33,9 @@ fn plain_form(word: &str) -> Option<Form>
     match word {
         "build" => Some(Form::Build),
         "order" => Some(Form::Order),
+        "groups" => Some(Form::Groups),
+        "why" => Some(Form::Why),
+        "policy" => Some(Form::Policy),
         _ => None,
     }
 }

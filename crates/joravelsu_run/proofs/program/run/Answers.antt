@@ -1,7 +1,8 @@
 -- Words that are a form, and others.
-use Rattle.graph_run.specs.declared.status.Status.TheVariants.{Done, BuildRefused, BadInput}
-use Rattle.joravelsu_run.specs.Due.{IsRefused, IsLargeInput, IsSmallInput}
-use Rattle.joravelsu_run.proofs.RunLemmas.{wrote_form, wrote_usage, never_usage, always_of, none_reading}
+use Rattle.std.proofs.Common.{◌≡◌}
+use Rattle.graph_run.specs.declared.status.Status.TheVariants.{BuildRefused, BadInput}
+use Rattle.joravelsu_run.specs.Due.{IsRefused, IsLargeInput, IsSmallInput, Ends}
+use Rattle.joravelsu_run.proofs.RunLemmas.{wrote_form, wrote_usage, never_usage, for_each_form}
 use Rattle.joravelsu_run.proofs.program.run.Goals as goal
 
 pub returns-in-Some-clause-written : goal.returns-in-Some-clause-written
@@ -20,28 +21,28 @@ returns-in-Some-clause-unread g c = λ none. absurd (none c.in-Some.form (rw c.i
 
 pub returns-in-Some-clause-refused : goal.returns-in-Some-clause-refused
 returns-in-Some-clause-refused g c =
-    always_of IsRefused _ _ _ _ _ _ c.run_form.result BadInput c.run_form.ensures.refused
+    for_each_form IsRefused (λ _ s. s ≡ BadInput) _ _ _ _ _ _ c.run_form.result c.in-Some.form
+    (rw c.in-Some.is at c.form_of.ensures) c.run_form.ensures.refused
 
 pub returns-in-Some-clause-large : goal.returns-in-Some-clause-large
 returns-in-Some-clause-large g c =
-    always_of IsLargeInput _ _ _ _ _ _ c.run_form.result BuildRefused c.run_form.ensures.large
+    for_each_form IsLargeInput (λ _ s. s ≡ BuildRefused) _ _ _ _ _ _ c.run_form.result c.in-Some.form
+    (rw c.in-Some.is at c.form_of.ensures) c.run_form.ensures.large
 
 pub returns-in-Some-clause-complete : goal.returns-in-Some-clause-complete
 returns-in-Some-clause-complete g c =
-    always_of IsSmallInput _ _ _ _ _ _ c.run_form.result Done c.run_form.ensures.complete
+    for_each_form IsSmallInput Ends _ _ _ _ _ _ c.run_form.result c.in-Some.form
+    (rw c.in-Some.is at c.form_of.ensures) c.run_form.ensures.complete
 
 pub returns-in-None-clause-written : goal.returns-in-None-clause-written
 returns-in-None-clause-written g c =
     wrote_usage _ _ _ _ _ _ _ (rw c.in-None.is at c.form_of.ensures) c.finish.ensures
 
 pub returns-in-None-clause-refused : goal.returns-in-None-clause-refused
-returns-in-None-clause-refused g c =
-    none_reading IsRefused _ _ _ _ _ _ _ BadInput (rw c.in-None.is at c.form_of.ensures)
+returns-in-None-clause-refused g c = λ f is. absurd ((rw c.in-None.is at c.form_of.ensures) f is)
 
 pub returns-in-None-clause-large : goal.returns-in-None-clause-large
-returns-in-None-clause-large g c =
-    none_reading IsLargeInput _ _ _ _ _ _ _ BuildRefused (rw c.in-None.is at c.form_of.ensures)
+returns-in-None-clause-large g c = λ f is. absurd ((rw c.in-None.is at c.form_of.ensures) f is)
 
 pub returns-in-None-clause-complete : goal.returns-in-None-clause-complete
-returns-in-None-clause-complete g c =
-    none_reading IsSmallInput _ _ _ _ _ _ _ Done (rw c.in-None.is at c.form_of.ensures)
+returns-in-None-clause-complete g c = λ f is. absurd ((rw c.in-None.is at c.form_of.ensures) f is)
