@@ -14,8 +14,6 @@ specifier: of the module in which it is told. start, end: bytes of its text, or 
 
 # From so many characters on it takes seconds to find a fault's place.
 LONG = 500_000
-# In longer texts no place is looked for: the program would be asked for minutes.
-MOST_SEARCHED = 1_000_000
 # Which of the words of --fail-on a fault counts for, beside any.
 WORDS = {"Missing": "missing", "Parse": "parse", "Decode": "parse", "WasmParse": "parse"}
 OF_ENTRY = {
@@ -122,8 +120,8 @@ def in_itself(entry, bundle, program):
         return at_byte_no_utf8(entry, source)
     text, named = source.text(), named_as(entry.specifier)
     stop = program.stop_of(named, text) if program else None
-    if stop is None and len(text) > MOST_SEARCHED:
-        return Fault(name, entry.specifier, None, None, f"its text isn't a program; above {MOST_SEARCHED:,} characters the place isn't looked for")
+    if stop is None and len(text) > places.MOST_SEARCHED:
+        return Fault(name, entry.specifier, None, None, f"its text isn't a program; above {places.MOST_SEARCHED:,} characters the place isn't looked for")
     with told_on_a_terminal(f"looking for the place of the fault in {shown(entry.specifier)}" if stop is None and len(text) >= LONG else None):
         start, length, what = places.fault_of(text, named, lambda texts: program.which_are_read(named, texts), stop)
     first = places.scan.bytes_before(text, start)

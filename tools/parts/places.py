@@ -20,6 +20,8 @@ INSIDE = ("", "x", ";;", "x of x")
 MOST_SHELLS = 3  # of which each is tried
 # Words with which a statement goes on behind a }.
 GOES_ON = frozenset("else catch finally while in instanceof of as satisfies from extends implements".split())
+# In longer texts no place is looked for: the program would be asked for minutes.
+MOST_SEARCHED = 1_000_000
 # How far it is looked for what tells that reading may go on where it stopped.
 MOST_LOOKED = 60
 ASSIGNS = ("=", "=>", "++", "--", "+=", "-=", "*=", "/=", "%=", "**=", "<<=", ">>=", ">>>=", "&=", "|=", "^=", "&&=", "||=", "??=")
@@ -174,10 +176,11 @@ class Search:
         return found + [last]
 
     def stopped(self, stop):
-        """The number of the token at which reading stopped, or None where it may go on there: before an assignment, and behind a
-        type in front of an expression."""
+        """The number of the token at which reading stopped, or None where it may go on there, and that can be found out: before an
+        assignment, and behind a type in front of an expression."""
         number = bisect.bisect_left([token.start for token in self.tokens], stop)
-        return None if self.may_be_assigned(number) or self.is_behind_type(number) else number
+        may_go_on = self.may_be_assigned(number) or self.is_behind_type(number)
+        return None if may_go_on and len(self.text) <= MOST_SEARCHED else number
 
     def may_be_assigned(self, number):
         """Whether a token may begin what is assigned to."""
