@@ -10,7 +10,7 @@ from parts.bundles import NEAR, shown
 
 Fault = collections.namedtuple("Fault", "kind specifier start end what")
 Fault.__doc__ = """kind: missing, parse, decode, wasm, loading, redirects, unsupported, data, package, edge, or root.
-specifier: of the module in which it is told. start, end: bytes of its text, or None. what: one sentence."""
+specifier: of the module in which it is reported. start, end: bytes of its text, or None. what: one sentence."""
 
 # From so many characters on it takes seconds to find a fault's place.
 LONG = 500_000
@@ -42,7 +42,7 @@ def word_of(entry):
 
 
 def of_graph(graph, bundle, program, reasons=None):
-    """Each fault, by the order of the modules in which they are told; the program says which texts are read. reasons has
+    """Each fault, by the order of the modules in which they are reported; the program says which texts are read. reasons has
     for URLs and bare specifiers why they lead nowhere, as far as that is known."""
     reasons = reasons or {}
     for specifier in graph.roots:
@@ -161,7 +161,7 @@ def at_byte_no_utf8(entry, source):
 
 
 def lines_of(fault, bundle, front=""):
-    """What is told of a fault: its place and sentence, and below them the line with a caret."""
+    """What is reported of a fault: its place and sentence, and below them the line with a caret."""
     source = bundle.source(fault.specifier) if fault.start is not None else None
     where = shown(fault.specifier, front)
     if source is None:

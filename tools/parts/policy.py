@@ -10,7 +10,7 @@ VERDICT = re.compile(r"policy (?:kept (\d+)|forbidden (\d+) (.*)|not-allowed (.*
 EDGE = re.compile(rf"(\S+) (?:\S+) (\d+-\d+|-) ({report.TEXT}) (?:-|\?|{report.TEXT}) (?:->|!) .*")
 
 Breach = collections.namedtuple("Breach", "specifier start end what")
-Breach.__doc__ = """specifier: of the module in which it is told. start, end: bytes of its text, or None. what: one sentence."""
+Breach.__doc__ = """specifier: of the module in which it is reported. start, end: bytes of its text, or None. what: one sentence."""
 
 
 class Policy:

@@ -84,7 +84,7 @@ class Program:
 
     @staticmethod
     def stop_of(_specifier, _text):
-        """Where a text stops being a program, as far as it is told: the program doesn't tell."""
+        """Where a text stops being a program: None, since the program doesn't say."""
         return None
 
 
