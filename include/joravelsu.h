@@ -95,7 +95,8 @@ enum {
     JORAVELSU_IMPORT_SOURCE = 8, /* import source a from "a" */
     JORAVELSU_IMPORT_DEFER = 9,  /* import defer * as a from "a" */
     JORAVELSU_DYNAMIC_SOURCE = 10,/* import.source("a") */
-    JORAVELSU_DYNAMIC_DEFER = 11 /* import.defer("a") */
+    JORAVELSU_DYNAMIC_DEFER = 11, /* import.defer("a") */
+    JORAVELSU_REQUIRE = 12        /* require("a"), where such calls are asked for */
 };
 
 /* Whether a site has an import attribute `type`, such as import a from "a" with { type: "json" }. */

@@ -12,7 +12,7 @@ from parts.words import MOST_BYTES, Wrong, plain
 SOURCES = (".ts", ".mts", ".cts", ".tsx", ".js", ".mjs", ".cjs", ".jsx")
 TYPESCRIPT = (".ts", ".mts", ".cts", ".tsx")
 # The kinds of a call of require.
-REQUIRES = ("import-equals", "import-equals-type")
+REQUIRES = ("require", "import-equals", "import-equals-type")
 # How many bytes of texts one call of the program takes: written as JSON they may be six times as many.
 PART = 4_000_000
 # Of so many names it is known what their endings say.

@@ -12,7 +12,7 @@ use Rattle.grammar_theory.specs.Key.{same_kind}
 use Rattle.es_grammar.specs.declared.cst.tree.Cst.{Cst}
 use Rattle.es_site.specs.declared.site.Site.{Site}
 use Rattle.es_site.specs.declared.site.Attribute.TheVariants.{Unknown}
-use Rattle.es_site.specs.declared.site.DependencyKind.TheVariants.{ImportEquals}
+use Rattle.es_site.specs.declared.site.DependencyKind.TheVariants.{Require}
 use Rattle.es_site.specs.Sites.{CutsLiteral, site_at}
 use Rattle.es_lowering.specs.Texts.{str_of}
 use Rattle.es_scopes.specs.Numbers.{ids, number_at}
@@ -39,7 +39,7 @@ module _ (x : List ℕ) (ts : List Token) (reads : ReadsTokens x ts) where
       )
 
   if_string : (t : Token) (b : Bool) → (b ≡ true → CutsLiteral x (str_of x t).span (str_of x t).value)
-      → Each IsCut (if b then site_at ImportEquals false (str_of x t) Unknown ∷ [] else [])
+      → Each IsCut (if b then site_at Require false (str_of x t) Unknown ∷ [] else [])
   if_string t true cut = (cut refl, tt)
   if_string t false cut = tt
 

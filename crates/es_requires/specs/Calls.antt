@@ -9,7 +9,7 @@ use Rattle.es_grammar.specs.declared.rows.NodeKind.TheVariants as l
 use Rattle.es_grammar.specs.declared.cst.tree.Cst.{Cst}
 use Rattle.es_site.specs.declared.site.Site.{Site}
 use Rattle.es_site.specs.declared.site.Attribute.TheVariants.{Unknown}
-use Rattle.es_site.specs.declared.site.DependencyKind.TheVariants.{ImportEquals}
+use Rattle.es_site.specs.declared.site.DependencyKind.TheVariants.{Require}
 use Rattle.es_site.specs.Sites.{site_at}
 use Rattle.es_lowering.specs.Texts.{ident_of, str_of}
 use Rattle.es_syntax.specs.declared.entry.Lean.{Lean}
@@ -99,7 +99,7 @@ module _ (x : List ℕ) (ts : List Token) where
   -- the string literal that a token is, as a site
   abbrev pub site_by : Option Token → Sites
   site_by (Some t) =
-      if same_kind t.kind k.Str then site_at ImportEquals false (str_of x t) Unknown ∷ [] else []
+      if same_kind t.kind k.Str then site_at Require false (str_of x t) Unknown ∷ [] else []
   site_by None = []
 
   abbrev pub site_of : Option ℕ → Sites

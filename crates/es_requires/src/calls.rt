@@ -242,7 +242,7 @@ impl Calls<'_> {
         if token.kind() == TokenKind::Str {
             let value = self.value(token)?;
             out.push(Site {
-                kind: DependencyKind::ImportEquals,
+                kind: DependencyKind::Require,
                 type_only: false,
                 range: token.range(),
                 value,

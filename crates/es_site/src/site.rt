@@ -30,6 +30,8 @@ pub enum DependencyKind {
     Wasm,
     /// An import that the caller gave for the referrer, which is in no text.
     Referrer,
+    /// `require("a")`, where such calls are asked for.
+    Require,
 }
 
 /// The `type` among the import attributes of a site (ECMA-262, "WithClause").

@@ -2,7 +2,7 @@
 use Rattle.std.specs.Prelude.{ℕ, Bool, true, false, not, ◌&&◌, List, [], ◌∷◌, Option, None, if◌then◌else◌}
 use Rattle.std.specs.List.{filter_map}
 use Rattle.es_site.specs.declared.site.DependencyKind.{DependencyKind}
-use Rattle.es_site.specs.declared.site.DependencyKind.TheVariants.{ImportSource, Dynamic, DynamicSource, DynamicDefer}
+use Rattle.es_site.specs.declared.site.DependencyKind.TheVariants.{ImportSource, Dynamic, DynamicSource, DynamicDefer, Require}
 use Rattle.media_type.specs.MediaType.{is_typed}
 use Rattle.graph_entry.specs.declared.answer.LoadAnswer.{LoadAnswer}
 use Rattle.graph_entry.specs.declared.entry.Dependency.{Dependency}
@@ -60,12 +60,17 @@ is_source ImportSource = true
 is_source DynamicSource = true
 is_source _ = false
 
+-- the edge leads to no types: it takes a source, or is a call of `require`
+abbrev pub is_untyped : DependencyKind → Bool
+is_untyped Require = true
+is_untyped kind = is_source kind
+
 -- a graph of this kind follows an edge: every one, those that a running program takes, or those of modules with types,
--- but for the edges that take a source
+-- but for the edges that lead to no types
 abbrev pub of_kind : GraphKind → Bool → Dependency → Bool
 of_kind All typed d = true
 of_kind CodeOnly typed d = not d.type_only
-of_kind TypesOnly typed d = typed && not (is_source d.kind)
+of_kind TypesOnly typed d = typed && not (is_untyped d.kind)
 
 -- the edge is an `import()`, in any phase
 abbrev pub is_dynamic : DependencyKind → Bool

@@ -1,6 +1,6 @@
 //! What becomes of the edges of a graph: which are followed, and what JSON is imported with.
 ghost use Rattle.std.specs.Prelude.{◌≡◌};
-ghost use Rattle.graph_builder.specs.Rules.{of_kind, is_source, is_dynamic, is_followed};
+ghost use Rattle.graph_builder.specs.Rules.{of_kind, is_source, is_untyped, is_dynamic, is_followed};
 
 use graph_entry::{Dependency, DependencyKind, GraphKind};
 
@@ -27,7 +27,7 @@ impl Following {
         match self.kind {
             GraphKind::All => true,
             GraphKind::CodeOnly => !dependency.type_only,
-            GraphKind::TypesOnly => typed && !is_source(dependency.kind),
+            GraphKind::TypesOnly => typed && !is_untyped(dependency.kind),
         }
     }
 }
@@ -40,6 +40,16 @@ pub fn is_source(kind: DependencyKind) -> bool
         kind,
         DependencyKind::ImportSource | DependencyKind::DynamicSource
     )
+}
+
+/// Whether an edge leads to no types.
+fn is_untyped(kind: DependencyKind) -> bool
+    ensures { result ≡ is_untyped kind }
+{
+    match kind {
+        DependencyKind::Require => true,
+        _ => is_source(kind),
+    }
 }
 
 fn is_dynamic(kind: DependencyKind) -> bool

@@ -202,5 +202,6 @@ fn kind_number(kind: DependencyKind) -> u32
         DependencyKind::ImportDefer => 9,
         DependencyKind::DynamicSource => 10,
         DependencyKind::DynamicDefer => 11,
+        DependencyKind::Require => 12,
     }
 }

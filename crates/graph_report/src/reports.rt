@@ -258,6 +258,7 @@ pub fn kind_name(kind: DependencyKind, type_only: bool) -> &'static str
         (DependencyKind::ReferenceTypes, _) => "reference-types",
         (DependencyKind::Wasm, _) => "wasm",
         (DependencyKind::Referrer, _) => "referrer",
+        (DependencyKind::Require, _) => "require",
     }
 }
 

@@ -42,6 +42,7 @@ no_reference kind.ReferencePath e = absurd (let bad : ⊥ = cc in bad)
 no_reference kind.ReferenceTypes e = absurd (let bad : ⊥ = cc in bad)
 no_reference kind.Wasm e = refl
 no_reference kind.Referrer e = refl
+no_reference kind.Require e = refl
 
 is_literal : (r : Resolved) (k : DependencyKind) → edge_cause r k ≡ None → is_reference k ≡ false
 is_literal (Ok url) k e = no_reference k e
