@@ -96,7 +96,11 @@ enum {
     JORAVELSU_IMPORT_DEFER = 9,  /* import defer * as a from "a" */
     JORAVELSU_DYNAMIC_SOURCE = 10,/* import.source("a") */
     JORAVELSU_DYNAMIC_DEFER = 11, /* import.defer("a") */
-    JORAVELSU_REQUIRE = 12        /* require("a"), where such calls are asked for */
+    JORAVELSU_REQUIRE = 12,       /* require("a"); this kind and those below only where they are asked for */
+    JORAVELSU_REQUIRE_RESOLVE = 13,/* require.resolve("a") */
+    JORAVELSU_TYPE_IMPORT = 14,   /* the type import("a") */
+    JORAVELSU_WORKER = 15,        /* new Worker(new URL("a", import.meta.url)) */
+    JORAVELSU_ADDRESS = 16        /* new URL("a", import.meta.url), or import.meta.resolve("a") */
 };
 
 /* Whether a site has an import attribute `type`, such as import a from "a" with { type: "json" }. */

@@ -9,7 +9,7 @@
 
 static const char *const kinds[] = {
     "import", "export", "import-equals", "dynamic", "reference-path", "reference-types", "wasm", "referrer",
-    "import-source", "import-defer", "dynamic-source", "dynamic-defer", "require",
+    "import-source", "import-defer", "dynamic-source", "dynamic-defer", "require", "require-resolve", "type-import", "worker", "address",
 };
 
 static uint32_t media_type_of(const char *path)

@@ -10,7 +10,7 @@ REFERRER = re.compile(rf"import (\S+) (\S+) (\d+-\d+|-) ({TEXT}) (-|\?|{TEXT}) (
 
 
 # The kinds of edges by which a running program takes a module later, if at all.
-LATER = ("dynamic", "dynamic-source", "dynamic-defer", "import-defer")
+LATER = ("dynamic", "dynamic-source", "dynamic-defer", "import-defer", "worker", "require-resolve", "address")
 
 
 class NoReport(Exception):
@@ -25,7 +25,7 @@ def base_kind(kind):
 
 
 def is_type_only(edge):
-    return edge.kind.endswith("-type") or edge.kind in ("reference-path", "reference-types")
+    return edge.kind.endswith("-type") or edge.kind in ("reference-path", "reference-types", "type-import")
 
 
 def value_of(edge):

@@ -13,6 +13,9 @@ SOURCES = (".ts", ".mts", ".cts", ".tsx", ".js", ".mjs", ".cjs", ".jsx")
 TYPESCRIPT = (".ts", ".mts", ".cts", ".tsx")
 # The kinds of a call of require.
 REQUIRES = ("require", "import-equals", "import-equals-type")
+# The kinds of edges that no graph follows, and those that lead to no types.
+PLACES = ("require-resolve", "address")
+UNTYPED = (*PLACES, "import-source", "dynamic-source", "wasm", "require", "worker")
 # How many bytes of texts one call of the program takes: written as JSON they may be six times as many.
 PART = 4_000_000
 # Of so many names it is known what their endings say.
@@ -54,12 +57,10 @@ def ending_of(place):
 
 def is_followed(kind, place, site):
     """Whether a graph of a kind follows an edge of a module, as docs/RESOLUTION.md has it."""
-    is_type_only = site.kind.endswith("-type") or site.kind.startswith("reference-")
-    if kind == "code":
-        return not is_type_only
+    is_type_only = site.kind.endswith("-type") or site.kind.startswith("reference-") or site.kind == "type-import"
     if kind == "types":
-        return is_typescript(place) and site.kind not in ("import-source", "dynamic-source", "wasm")
-    return True
+        return is_typescript(place) and site.kind not in UNTYPED
+    return site.kind not in PLACES and not (kind == "code" and is_type_only)
 
 
 def content_of(place, data):

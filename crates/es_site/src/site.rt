@@ -32,6 +32,14 @@ pub enum DependencyKind {
     Referrer,
     /// `require("a")`, where such calls are asked for.
     Require,
+    /// `require.resolve("a")`, where such calls are asked for.
+    RequireResolve,
+    /// The type `import("a")`, where such types are asked for.
+    TypeImport,
+    /// `new Worker(new URL("a", import.meta.url))`, where workers are asked for.
+    Worker,
+    /// `new URL("a", import.meta.url)` or `import.meta.resolve("a")`, where addresses are asked for.
+    Address,
 }
 
 /// The `type` among the import attributes of a site (ECMA-262, "WithClause").

@@ -2,7 +2,7 @@
 use Rattle.std.specs.Prelude.{ℕ, Bool, true, false, not, ◌&&◌, List, [], ◌∷◌, Option, None, if◌then◌else◌}
 use Rattle.std.specs.List.{filter_map}
 use Rattle.es_site.specs.declared.site.DependencyKind.{DependencyKind}
-use Rattle.es_site.specs.declared.site.DependencyKind.TheVariants.{ImportSource, Dynamic, DynamicSource, DynamicDefer, Require}
+use Rattle.es_site.specs.declared.site.DependencyKind.TheVariants.{ImportSource, Dynamic, DynamicSource, DynamicDefer, Require, RequireResolve, Worker, Address}
 use Rattle.media_type.specs.MediaType.{is_typed}
 use Rattle.graph_entry.specs.declared.answer.LoadAnswer.{LoadAnswer}
 use Rattle.graph_entry.specs.declared.entry.Dependency.{Dependency}
@@ -60,23 +60,35 @@ is_source ImportSource = true
 is_source DynamicSource = true
 is_source _ = false
 
--- the edge leads to no types: it takes a source, or is a call of `require`
-abbrev pub is_untyped : DependencyKind → Bool
-is_untyped Require = true
-is_untyped kind = is_source kind
+-- the edge names a place: nothing is read or run by it
+abbrev pub is_place : DependencyKind → Bool
+is_place RequireResolve = true
+is_place Address = true
+is_place _ = false
 
--- a graph of this kind follows an edge: every one, those that a running program takes, or those of modules with types,
--- but for the edges that lead to no types
+-- the edge leads to no types: it takes a source, names a place, is a call of `require`, or starts a worker
+abbrev pub is_untyped : DependencyKind → Bool
+is_untyped ImportSource = true
+is_untyped DynamicSource = true
+is_untyped Require = true
+is_untyped RequireResolve = true
+is_untyped Worker = true
+is_untyped Address = true
+is_untyped _ = false
+
+-- a graph of this kind follows an edge: every one, or those that a running program takes, but for those that name a
+-- place; or those of modules with types, but for those that lead to no types
 abbrev pub of_kind : GraphKind → Bool → Dependency → Bool
-of_kind All typed d = true
-of_kind CodeOnly typed d = not d.type_only
+of_kind All typed d = not (is_place d.kind)
+of_kind CodeOnly typed d = not d.type_only && not (is_place d.kind)
 of_kind TypesOnly typed d = typed && not (is_untyped d.kind)
 
--- the edge is an `import()`, in any phase
+-- the edge is an `import()`, in any phase, or starts a worker
 abbrev pub is_dynamic : DependencyKind → Bool
 is_dynamic Dynamic = true
 is_dynamic DynamicSource = true
 is_dynamic DynamicDefer = true
+is_dynamic Worker = true
 is_dynamic _ = false
 
 -- an edge of a module with types, or without, is followed (this project's profile)

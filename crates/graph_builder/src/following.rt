@@ -1,6 +1,6 @@
 //! What becomes of the edges of a graph: which are followed, and what JSON is imported with.
 ghost use Rattle.std.specs.Prelude.{◌≡◌};
-ghost use Rattle.graph_builder.specs.Rules.{of_kind, is_source, is_untyped, is_dynamic, is_followed};
+ghost use Rattle.graph_builder.specs.Rules.{of_kind, is_source, is_place, is_untyped, is_dynamic, is_followed};
 
 use graph_entry::{Dependency, DependencyKind, GraphKind};
 
@@ -25,8 +25,8 @@ impl Following {
         ensures { result ≡ of_kind self.kind typed dependency.now }
     {
         match self.kind {
-            GraphKind::All => true,
-            GraphKind::CodeOnly => !dependency.type_only,
+            GraphKind::All => !is_place(dependency.kind),
+            GraphKind::CodeOnly => !dependency.type_only && !is_place(dependency.kind),
             GraphKind::TypesOnly => typed && !is_untyped(dependency.kind),
         }
     }
@@ -42,14 +42,29 @@ pub fn is_source(kind: DependencyKind) -> bool
     )
 }
 
+/// Whether an edge names a place, so that nothing is read or run by it.
+fn is_place(kind: DependencyKind) -> bool
+    ensures { result ≡ is_place kind }
+{
+    matches!(
+        kind,
+        DependencyKind::RequireResolve | DependencyKind::Address
+    )
+}
+
 /// Whether an edge leads to no types.
 fn is_untyped(kind: DependencyKind) -> bool
     ensures { result ≡ is_untyped kind }
 {
-    match kind {
-        DependencyKind::Require => true,
-        _ => is_source(kind),
-    }
+    matches!(
+        kind,
+        DependencyKind::ImportSource
+            | DependencyKind::DynamicSource
+            | DependencyKind::Require
+            | DependencyKind::RequireResolve
+            | DependencyKind::Worker
+            | DependencyKind::Address
+    )
 }
 
 fn is_dynamic(kind: DependencyKind) -> bool
@@ -57,6 +72,9 @@ fn is_dynamic(kind: DependencyKind) -> bool
 {
     matches!(
         kind,
-        DependencyKind::Dynamic | DependencyKind::DynamicSource | DependencyKind::DynamicDefer
+        DependencyKind::Dynamic
+            | DependencyKind::DynamicSource
+            | DependencyKind::DynamicDefer
+            | DependencyKind::Worker
     )
 }

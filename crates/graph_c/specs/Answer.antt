@@ -3,7 +3,7 @@ use Rattle.std.specs.Prelude.{◌≡◌, ℕ, ◌+◌, Bool, ◌&&◌, nat_le, L
 use Rattle.std.specs.List.{flat_map}
 use Rattle.es_site.specs.declared.site.Site.{Site}
 use Rattle.es_site.specs.declared.site.DependencyKind.{DependencyKind}
-use Rattle.es_site.specs.declared.site.DependencyKind.TheVariants.{Import, ImportSource, ImportDefer, Export, ImportEquals, Dynamic, DynamicSource, DynamicDefer, ReferencePath, ReferenceTypes, Wasm, Referrer, Require}
+use Rattle.es_site.specs.declared.site.DependencyKind.TheVariants.{Import, ImportSource, ImportDefer, Export, ImportEquals, Dynamic, DynamicSource, DynamicDefer, ReferencePath, ReferenceTypes, Wasm, Referrer, Require, RequireResolve, TypeImport, Worker, Address}
 use Rattle.es_site.specs.declared.site.Attribute.{Attribute}
 use Rattle.es_site.specs.declared.site.Attribute.TheVariants.{Absent, Named, Unknown}
 use Rattle.graph_c.specs.declared.answer.SourceSite.{SourceSite}
@@ -29,6 +29,10 @@ kind_number ImportDefer = 9
 kind_number DynamicSource = 10
 kind_number DynamicDefer = 11
 kind_number Require = 12
+kind_number RequireResolve = 13
+kind_number TypeImport = 14
+kind_number Worker = 15
+kind_number Address = 16
 
 -- whether a site has an import attribute `type`: no, the text doesn't say, or yes
 abbrev pub attribute_number : Attribute → ℕ

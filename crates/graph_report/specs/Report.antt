@@ -5,7 +5,7 @@ use Rattle.json.specs.Print.{quoted}
 use Rattle.base.specs.declared.range.Range.{Range}
 use Rattle.url.specs.Parts.{Parts}
 use Rattle.es_site.specs.declared.site.DependencyKind.{DependencyKind}
-use Rattle.es_site.specs.declared.site.DependencyKind.TheVariants.{Import, ImportSource, ImportDefer, Export, ImportEquals, Dynamic, DynamicSource, DynamicDefer, ReferencePath, ReferenceTypes, Wasm, Referrer, Require}
+use Rattle.es_site.specs.declared.site.DependencyKind.TheVariants.{Import, ImportSource, ImportDefer, Export, ImportEquals, Dynamic, DynamicSource, DynamicDefer, ReferencePath, ReferenceTypes, Wasm, Referrer, Require, RequireResolve, TypeImport, Worker, Address}
 use Rattle.es_site.specs.declared.site.Attribute.{Attribute}
 use Rattle.es_site.specs.declared.site.Attribute.TheVariants.{Absent, Named, Unknown}
 use Rattle.package_ref.specs.declared.reference.PackageRef.{PackageRef}
@@ -49,6 +49,10 @@ kind_word ReferenceTypes type_only = codes "reference-types"
 kind_word Wasm type_only = codes "wasm"
 kind_word Referrer type_only = codes "referrer"
 kind_word Require type_only = codes "require"
+kind_word RequireResolve type_only = codes "require-resolve"
+kind_word TypeImport type_only = codes "type-import"
+kind_word Worker type_only = codes "worker"
+kind_word Address type_only = codes "address"
 
 -- where the literal stands: from its first byte up to the byte behind it
 abbrev pub range_word : Option Range → List ℕ

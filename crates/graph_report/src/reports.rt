@@ -259,6 +259,10 @@ pub fn kind_name(kind: DependencyKind, type_only: bool) -> &'static str
         (DependencyKind::Wasm, _) => "wasm",
         (DependencyKind::Referrer, _) => "referrer",
         (DependencyKind::Require, _) => "require",
+        (DependencyKind::RequireResolve, _) => "require-resolve",
+        (DependencyKind::TypeImport, _) => "type-import",
+        (DependencyKind::Worker, _) => "worker",
+        (DependencyKind::Address, _) => "address",
     }
 }
 

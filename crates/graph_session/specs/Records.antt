@@ -4,7 +4,7 @@ use Rattle.std.specs.List.{flat_map}
 use Rattle.base.specs.declared.range.Range.{Range}
 use Rattle.url.specs.Parts.{Parts}
 use Rattle.es_site.specs.declared.site.DependencyKind.{DependencyKind}
-use Rattle.es_site.specs.declared.site.DependencyKind.TheVariants.{Import, ImportSource, ImportDefer, Export, ImportEquals, Dynamic, DynamicSource, DynamicDefer, ReferencePath, ReferenceTypes, Wasm, Referrer, Require}
+use Rattle.es_site.specs.declared.site.DependencyKind.TheVariants.{Import, ImportSource, ImportDefer, Export, ImportEquals, Dynamic, DynamicSource, DynamicDefer, ReferencePath, ReferenceTypes, Wasm, Referrer, Require, RequireResolve, TypeImport, Worker, Address}
 use Rattle.es_site.specs.declared.site.Attribute.{Attribute}
 use Rattle.es_site.specs.declared.site.Attribute.TheVariants.{Absent, Named, Unknown}
 use Rattle.media_type.specs.declared.media_type.MediaType.{MediaType}
@@ -47,6 +47,10 @@ kind_number ImportDefer = 9
 kind_number DynamicSource = 10
 kind_number DynamicDefer = 11
 kind_number Require = 12
+kind_number RequireResolve = 13
+kind_number TypeImport = 14
+kind_number Worker = 15
+kind_number Address = 16
 
 -- whether an edge has an import attribute `type`: no, the text doesn't say, or yes
 abbrev pub attribute_number : Attribute → ℕ

@@ -254,6 +254,10 @@ fn kind_number(kind: DependencyKind) -> u32
         DependencyKind::DynamicSource => 10,
         DependencyKind::DynamicDefer => 11,
         DependencyKind::Require => 12,
+        DependencyKind::RequireResolve => 13,
+        DependencyKind::TypeImport => 14,
+        DependencyKind::Worker => 15,
+        DependencyKind::Address => 16,
     }
 }
 

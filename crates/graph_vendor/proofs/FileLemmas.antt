@@ -43,6 +43,10 @@ no_reference kind.ReferenceTypes e = absurd (let bad : ⊥ = cc in bad)
 no_reference kind.Wasm e = refl
 no_reference kind.Referrer e = refl
 no_reference kind.Require e = refl
+no_reference kind.RequireResolve e = refl
+no_reference kind.TypeImport e = refl
+no_reference kind.Worker e = refl
+no_reference kind.Address e = refl
 
 is_literal : (r : Resolved) (k : DependencyKind) → edge_cause r k ≡ None → is_reference k ≡ false
 is_literal (Ok url) k e = no_reference k e

@@ -7,7 +7,8 @@ export type MediaType =
 export interface Site {
   kind:
     | "import" | "import-source" | "import-defer" | "export" | "import-equals"
-    | "dynamic" | "dynamic-source" | "dynamic-defer" | "reference-path" | "reference-types" | "require";
+    | "dynamic" | "dynamic-source" | "dynamic-defer" | "reference-path" | "reference-types" | "require"
+    | "require-resolve" | "type-import" | "worker" | "address";
   /** Nothing is loaded when the program runs. */
   typeOnly: boolean;
   /** The first byte of the string literal, or of the value in the comment, with its quotes. */

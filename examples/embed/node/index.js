@@ -5,7 +5,7 @@ const addon = require("./joravelsu.node");
 const MEDIA_TYPES = ["Dts", "Dmts", "Dcts", "TypeScript", "Mts", "Cts", "Tsx", "JavaScript", "Mjs", "Cjs", "Jsx", "Json", "Wasm"];
 const KINDS = [
   "import", "export", "import-equals", "dynamic", "reference-path", "reference-types", "wasm", "referrer",
-  "import-source", "import-defer", "dynamic-source", "dynamic-defer", "require",
+  "import-source", "import-defer", "dynamic-source", "dynamic-defer", "require", "require-resolve", "type-import", "worker", "address",
 ];
 const CALLS = ["import", "require"];
 const REASONS = {

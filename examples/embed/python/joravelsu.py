@@ -27,7 +27,8 @@ DTS, DMTS, DCTS, TYPESCRIPT, MTS, CTS, TSX, JAVASCRIPT, MJS, CJS, JSX, JSON, WAS
 
 _DONE, _BAD_BUNDLE, _NO_ROOM, _NO_MEMORY = 0, 2, 4, 5
 _KINDS = ("import", "export", "import-equals", "dynamic", "reference-path", "reference-types", "wasm", "referrer",
-          "import-source", "import-defer", "dynamic-source", "dynamic-defer", "require")
+          "import-source", "import-defer", "dynamic-source", "dynamic-defer", "require",
+          "require-resolve", "type-import", "worker", "address")
 _CALLS = ("import", "require")
 _NO_UTF8, _NAMED = 7, 2
 _REASONS = {

@@ -20,7 +20,7 @@ use Rattle.graph_entry.specs.Specifier.{text_of}
 use Rattle.graph_entry.specs.Entry.{edge_target}
 use Rattle.graph_entry.proofs.Theorems.{analysed_once}
 use Rattle.graph_builder.specs.declared.following.Following.{Following}
-use Rattle.graph_builder.specs.Rules.{targets, led_to, of_kind, is_dynamic, is_followed}
+use Rattle.graph_builder.specs.Rules.{targets, led_to, of_kind, is_place, is_dynamic, is_followed}
 use Rattle.graph_builder.specs.Reach.{Specifier, has, IsEntry, IsReached, Leads, IsFunctional}
 use Rattle.graph_builder.specs.Final.{Redirects, most_redirects, is_redirect, IsFinal, redirect, too_far, with_module, same}
 use Rattle.graph_builder.specs.Graph.{entry_of, resolved, texts}
@@ -84,8 +84,9 @@ redirect_same v s next reached at = by (v.old.each s (entry.Redirect next) at)
 
 kind_same : (kind : GraphKind) (typed : Bool) (d e : Dependency) → e.kind ≡ d.kind → e.type_only ≡ d.type_only
     → of_kind kind typed e ≡ of_kind kind typed d
-kind_same All typed d e k t = refl
-kind_same CodeOnly typed d e k t = ap not t
+kind_same All typed d e k t = ap (λ (x : DependencyKind). not (is_place x)) k
+kind_same CodeOnly typed d e k t = ap (λ (b : Bool). not b && not (is_place e.kind)) t
+    ∙ ap (λ (x : DependencyKind). not d.type_only && not (is_place x)) k
 kind_same TypesOnly typed d e k t = rw k refl
 
 pub follow_same : (following : Following) (typed : Bool) (entries : Entries) (names : Names) (changes : List TextChange)
