@@ -1,7 +1,7 @@
 /// Which edges of a graph are followed.
 #[derive(Clone, Copy, Debug, PartialEq, Eq)]
 pub enum GraphKind {
-    /// Every edge.
+    /// Every edge but those that name a place.
     All,
     /// The edges that a running program takes.
     CodeOnly,
