@@ -1,4 +1,4 @@
-//! Which types stay, or stand behind `readonly`, where the value is frozen.
+//! Which types stay, or get `readonly` in front, where the value is frozen.
 
 ghost use Rattle.std.specs.Prelude.{◌≡◌, ◌<◌, ℕ, List, length, true, false, not, IfSome, slice_get};
 ghost use Rattle.base.specs.declared.range.Range.{Range};
