@@ -38,7 +38,7 @@ leaf at = λ ts. token at
 
 -- a node over these parts
 abbrev made : List Token → NodeKind → Parts → Parts
-made ts label p = node label p (own (scopes ts) label p)
+made ts label p = node label p (own (scopes ts false) label p)
 
 abbrev branch : NodeKind → List Shape → Shape
 branch label parts = λ ts. made ts label (each parts ts)

@@ -1,6 +1,6 @@
 -- The names and scopes of a kept tree, in the order of the text: what a walk by the steps of its alternatives (`plan`)
 -- meets.
-use Rattle.std.specs.Prelude.{ℕ, ◌+◌, Bool, true, false, not, ◌&&◌, if◌then◌else◌, List, [], ◌∷◌, Option, Some, None, is_some, slice_get}
+use Rattle.std.specs.Prelude.{ℕ, ◌+◌, Bool, true, false, not, ◌&&◌, ◌||◌, if◌then◌else◌, List, [], ◌∷◌, Option, Some, None, is_some, slice_get}
 use Rattle.es_token.specs.declared.token.Token.{Token}
 use Rattle.es_token.specs.declared.token.TokenKind.{TokenKind}
 use Rattle.es_token.specs.declared.token.TokenKind.TheVariants as k
@@ -47,6 +47,11 @@ abbrev pub is_body : Place → Bool
 is_body vPlace.Body = true
 is_body _ = false
 
+-- whether `var` declares in a scope
+abbrev pub hoists_in : Place → When → Bool → Bool
+hoists_in here Apart hoists = hoists || is_body here
+hoists_in here _ hoists = hoists
+
 -- where an expression stands
 abbrev pub is_used : Place → Bool
 is_used vPlace.Uses = true
@@ -90,31 +95,38 @@ module _ (ts : List Token) where
   named_at (Some place) at = named place at
   named_at None at = []
 
-  abbrev pub holds : Place → Parts → When → Bool
-  holds here p Always = true
-  holds here p Apart = not (is_body here)
-  holds here p Caught = has_second (group p 1)
-  holds here p Braced = is_braced (number_in (part p 0))
-  holds here p (Named n) = is_some (number_in (own_in (part p n))) && is_used here
+  -- whether the body of a function is a scope of its own
+  module _ (bodies : Bool) where
+    abbrev pub holds : Place → Parts → When → Bool
+    holds here p Always = true
+    holds here p Apart = bodies || not (is_body here)
+    holds here p Caught = has_second (group p 1)
+    holds here p Braced = is_braced (number_in (part p 0))
+    holds here p (Named n) = is_some (number_in (own_in (part p n))) && is_used here
 
-  -- what is met at a node with these parts
-  abbrev pub acts : Place → Parts → Act → Marks
-  acts here p (act.Open when hoists) = if holds here p when then mark.Open hoists ∷ [] else []
-  acts here p (act.Close when) = if holds here p when then mark.Close ∷ [] else []
-  acts here p (act.Name w n) = named_at (leads here p w) (number_in (part p n))
-  acts here p (act.NameIn w n m) = named_at (leads here p w) (number_in (part (group p n) m))
-  acts here p (act.Own n) = named vPlace.Binds (number_in (own_in (part p n)))
+    -- what is met at a node with these parts
+    abbrev pub acts : Place → Parts → Act → Marks
+    acts here p (act.Open when hoists) =
+        if holds here p when then mark.Open (hoists_in here when hoists) ∷ [] else []
+    acts here p (act.Close when) = if holds here p when then mark.Close ∷ [] else []
+    acts here p (act.Name w n) = named_at (leads here p w) (number_in (part p n))
+    acts here p (act.NameIn w n m) = named_at (leads here p w) (number_in (part (group p n) m))
+    acts here p (act.Own n) = named vPlace.Binds (number_in (own_in (part p n)))
 
-  abbrev pub scopes : Analysis Place Way Act Turn Mark
-  scopes = record {
-    plan = plan;
-    turn = turn_plan;
-    operands = λ lean. Some vPlace.Uses;
-    operand = operand_plan;
-    leads = leads;
-    acts = acts;
-  }
+    abbrev pub scopes : Analysis Place Way Act Turn Mark
+    scopes = record {
+      plan = plan;
+      turn = turn_plan;
+      operands = λ lean. Some vPlace.Uses;
+      operand = operand_plan;
+      leads = leads;
+      acts = acts;
+    }
 
   -- what is met in a tree: a program's names and scopes
   abbrev pub marks : Cst → Marks
-  marks tree = walked scopes tree vPlace.Binds
+  marks tree = walked (scopes false) tree vPlace.Binds
+
+  -- the same, where the block of a body is a scope of its own, inside that of the parameters
+  abbrev pub body_marks : Cst → Marks
+  body_marks tree = walked (scopes true) tree vPlace.Binds

@@ -6,5 +6,5 @@ mod program;
 mod scopes;
 mod steps;
 
-pub use program::program_marks;
+pub use program::{body_marks, program_marks};
 pub use steps::{Act, Mark, Place, Turn, Way, When};

@@ -1,9 +1,9 @@
 //! What the scopes of a program say of its nodes.
 
-ghost use Rattle.std.specs.Prelude.{◌≡◌, ◌≤◌, ◌++◌, ◌∷◌, [], length, is_some, ◌&&◌, if◌then◌else◌, OnOk};
+ghost use Rattle.std.specs.Prelude.{◌≡◌, ◌≤◌, ◌++◌, ◌∷◌, [], length, is_some, ◌&&◌, ◌||◌, if◌then◌else◌, OnOk};
 ghost use Rattle.es_walk.specs.Part.{as_group, follow, number_in, own_in, is_there, has_second};
 ghost use Rattle.es_walk.specs.Rows.{parts_of};
-ghost use Rattle.es_scopes.specs.Marks.{turn_plan, operand_plan, is_body, is_used, is_kind, is_braced, word_by, leads, named_at, holds, acts, scopes};
+ghost use Rattle.es_scopes.specs.Marks.{turn_plan, operand_plan, is_body, hoists_in, is_used, is_kind, is_braced, word_by, leads, named_at, holds, acts, scopes};
 
 use crate::plan::plan;
 use crate::steps::{Act, Mark, Place, Turn, Way, When};
@@ -14,10 +14,11 @@ use es_token::{Token, TokenKind};
 use es_walk::{Path, Step, Walk, has_parts, has_second, number_at, own_at};
 use std::alloc::AllocError;
 
-/// The tokens of a text.
+/// The tokens of a text, and whether the body of a function is a scope of its own.
 #[derive(Clone, Copy)]
 pub struct Scopes<'a> {
     pub tokens: &'a [Token],
+    pub bodies: bool,
 }
 
 impl Walk for Scopes<'_> {
@@ -31,7 +32,7 @@ impl Walk for Scopes<'_> {
 
     type Mark = Mark;
 
-    ghost rules = { λ s. scopes s.tokens.now };
+    ghost rules = { λ s. scopes s.tokens.now s.bodies };
 
     fn plan(&self, label: NodeKind) -> &'static [Step<Way, Act, Turn>] {
         plan(label)
@@ -126,6 +127,16 @@ fn is_body(here: Place) -> bool
     matches!(here, Place::Body)
 }
 
+/// Whether `var` declares in a scope.
+fn hoists_in(here: Place, when: When, hoists: bool) -> bool
+    ensures { hoists_in here when hoists ≡ result }
+{
+    match when {
+        When::Apart => hoists || is_body(here),
+        _ => hoists,
+    }
+}
+
 fn is_named(here: Place, at: Option<u32>) -> bool
     ensures { is_some at && is_used here ≡ result }
 {
@@ -170,28 +181,28 @@ fn name(
 impl Scopes<'_> {
     /// The token at a place, by its number.
     fn number(&self, parts: &Siblings<'_>, path: Path) -> Option<u32>
-        ensures { number_in (follow (parts_of (scopes self.now.tokens.now) parts.now.entries.now) path) ≡ result }
+        ensures { number_in (follow (parts_of (scopes self.now.tokens.now self.now.bodies) parts.now.entries.now) path) ≡ result }
     {
         number_at(parts, path)
     }
 
     /// The token at a place, or the first one of the group there, by its number.
     fn own(&self, parts: &Siblings<'_>, path: Path) -> Option<u32>
-        ensures { number_in (own_in (follow (parts_of (scopes self.now.tokens.now) parts.now.entries.now) path)) ≡ result }
+        ensures { number_in (own_in (follow (parts_of (scopes self.now.tokens.now self.now.bodies) parts.now.entries.now) path)) ≡ result }
     {
         own_at(parts, path)
     }
 
     /// Whether the group at a place has a part.
     fn has_one(&self, parts: &Siblings<'_>, path: Path) -> bool
-        ensures { is_there (as_group (follow (parts_of (scopes self.now.tokens.now) parts.now.entries.now) path)) ≡ result }
+        ensures { is_there (as_group (follow (parts_of (scopes self.now.tokens.now self.now.bodies) parts.now.entries.now) path)) ≡ result }
     {
         has_parts(parts, path)
     }
 
     /// Whether it has more than one.
     fn has_two(&self, parts: &Siblings<'_>, path: Path) -> bool
-        ensures { has_second (as_group (follow (parts_of (scopes self.now.tokens.now) parts.now.entries.now) path)) ≡ result }
+        ensures { has_second (as_group (follow (parts_of (scopes self.now.tokens.now self.now.bodies) parts.now.entries.now) path)) ≡ result }
     {
         has_second(parts, path)
     }
@@ -199,7 +210,7 @@ impl Scopes<'_> {
 
 impl Scopes<'_> {
     fn led(&self, here: Place, parts: &Siblings<'_>, way: Way) -> Option<Place>
-        ensures { result ≡ leads self.now.tokens.now here (parts_of (scopes self.now.tokens.now) parts.now.entries.now) way }
+        ensures { result ≡ leads self.now.tokens.now here (parts_of (scopes self.now.tokens.now self.now.bodies) parts.now.entries.now) way }
     {
         match way {
             Way::Same => Some(here),
@@ -218,11 +229,11 @@ impl Scopes<'_> {
 
     /// Whether a scope is opened.
     fn holds(&self, here: Place, parts: &Siblings<'_>, when: When) -> bool
-        ensures { result ≡ holds self.now.tokens.now here (parts_of (scopes self.now.tokens.now) parts.now.entries.now) when }
+        ensures { result ≡ holds self.now.tokens.now self.now.bodies here (parts_of (scopes self.now.tokens.now self.now.bodies) parts.now.entries.now) when }
     {
         match when {
             When::Always => true,
-            When::Apart => !is_body(here),
+            When::Apart => self.bodies || !is_body(here),
             When::Caught => self.has_two(parts, Path::At(1)),
             When::Braced => is_braced(self.tokens, self.number(parts, Path::At(0))),
             When::Named(n) => is_named(here, self.own(parts, Path::At(n))),
@@ -236,11 +247,15 @@ impl Scopes<'_> {
         parts: &Siblings<'_>,
         act: Act,
     ) -> Result<(), AllocError>
-        ensures { OnOk result (out.new ≡ out.old ++ acts self.now.tokens.now here (parts_of (scopes self.now.tokens.now) parts.now.entries.now) act) }
+        ensures { OnOk result (out.new ≡ out.old ++ acts self.now.tokens.now self.now.bodies here (parts_of (scopes self.now.tokens.now self.now.bodies) parts.now.entries.now) act) }
     {
         match act {
             Act::Open(when, hoists) => {
-                mark_if(out, self.holds(here, parts, when), Mark::Open(hoists))
+                mark_if(
+                    out,
+                    self.holds(here, parts, when),
+                    Mark::Open(hoists_in(here, when, hoists)),
+                )
             }
             Act::Close(when) => mark_if(out, self.holds(here, parts, when), Mark::Close),
             Act::Name(way, n) => name(

@@ -5,4 +5,5 @@ use Rattle.es_scopes.proofs.scopes.Scopes.number.Goals as goal
 
 pub returns : goal.returns
 returns c =
-    number_asked (scopes c.args.self.now.tokens.now) c.args.parts.now.entries.now c.args.path ∙ c.number_at.ensures
+    number_asked (scopes c.args.self.now.tokens.now c.args.self.now.bodies) c.args.parts.now.entries.now c.args.path
+    ∙ c.number_at.ensures
