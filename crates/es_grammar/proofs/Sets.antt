@@ -1,9 +1,9 @@
 -- What is claimed of the rows of programs: the tokens that may begin one, those that may follow one, and whether it
 -- always takes a token.
-use Rattle.std.specs.Prelude.{Bool, true, false, ◌||◌}
+use Rattle.std.specs.Prelude.{Bool, true, false, ◌||◌, if◌then◌else◌}
 use Rattle.es_token.specs.declared.token.TokenKind.TheVariants as k
 use Rattle.grammar_theory.specs.declared.error.Lang.{Lang}
-use Rattle.grammar_theory.specs.declared.error.Lang.TheVariants as lang
+use Rattle.grammar_theory.specs.Languages.{typed}
 use Rattle.grammar_theory.specs.Key.{TokenTest, is, is_end, is_token, has_kind}
 use Rattle.grammar_theory.specs.Tells.{Sets}
 use Rattle.es_grammar.specs.types.Words.{is_name, is_word, is_name_or_this, is_numeric, begins_key}
@@ -35,9 +35,8 @@ abbrev begins_operand : TokenTest
 begins_operand x = begins_chain x || (has_kind is_prefix x || (has_kind is_update x || is k.AwaitWord x))
 
 -- one in TypeScript alone
-abbrev if_typescript : Lang → TokenTest → TokenTest
-if_typescript lang.Es t x = false
-if_typescript lang.Typescript t x = t x
+abbrev if_typed : Lang → TokenTest → TokenTest
+if_typed l t x = if typed l then t x else false
 
 -- a token that begins a statement of its own
 abbrev begins_keyword : Lang → TokenTest
@@ -45,7 +44,7 @@ begins_keyword l x =
     has_kind is_variable_word x || (is k.IfWord x || (is k.ForWord x || (is k.WhileWord x || (is k.DoWord x
     || (is k.ContinueWord x || (is k.BreakWord x || (is k.ReturnWord x || (is k.ThrowWord x || (is k.SwitchWord x
     || (is k.TryWord x || (is k.DebuggerWord x || (is k.WithWord x || (is k.Semicolon x
-    || if_typescript l (is k.EnumWord) x)))))))))))))
+    || if_typed l (is k.EnumWord) x)))))))))))))
 
 -- a token that begins a declaration, and one that begins one of TypeScript
 abbrev begins_typed_declaration : TokenTest
@@ -53,10 +52,10 @@ begins_typed_declaration x =
     is k.EnumWord x || (is k.DeclareWord x || (is k.AbstractWord x || (is k.InterfaceWord x || (is k.TypeWord x
     || (is k.NamespaceWord x || (is k.ModuleWord x || is k.GlobalWord x))))))
 
-abbrev begins_declaration : Lang → TokenTest
-begins_declaration l x =
+abbrev begins_declaration : TokenTest → TokenTest
+begins_declaration other x =
     has_kind is_variable_word x || (is k.FunctionWord x || (is k.ClassWord x || (is k.UsingWord x
-    || (is k.AwaitWord x || (is k.AsyncWord x || if_typescript l begins_typed_declaration x)))))
+    || (is k.AwaitWord x || (is k.AsyncWord x || other x)))))
 
 -- the tokens that may begin a row of types
 abbrev first_of_types : TypeRow → TokenTest
@@ -95,18 +94,18 @@ first l AttributesRow x = is k.WithWord x
 first l EntityRow x = has_kind is_name_or_this x
 first l (StatementRow c) x = begins_value l x || begins_keyword l x
 first l (BlockRow c) x = is k.OpenBrace x
-first l (DeclarationRow c) x = begins_declaration l x
-first l (DeclaredRow c) x = begins_declaration lang.Typescript x
+first l (DeclarationRow c) x = begins_declaration (if_typed l begins_typed_declaration) x
+first l (DeclaredRow c) x = begins_declaration begins_typed_declaration x
 first l (VariablesRow c) x = has_kind is_variable_word x
 first l (DeclaratorRow c) x = begins_pattern x
 first l (UsingRow c) x = is k.UsingWord x || is k.AwaitWord x
 first l (HeadRow c) x = begins_chain x || (has_kind is_variable_word x || is k.AwaitWord x)
 first l (HeadPatternRow c) x = begins_pattern x
 first l (FunctionRow named c) x = is k.FunctionWord x || is k.AsyncWord x
-first l (ClassRow named c) x = is k.ClassWord x || if_typescript l (is k.AbstractWord) x
+first l (ClassRow named c) x = is k.ClassWord x || if_typed l (is k.AbstractWord) x
 first l (SignatureRow c) x = begins_parameters l x
-first l (ParametersRow c) x = is k.Ellipsis x || (begins_pattern x || if_typescript l (is k.ThisWord) x)
-first l (ParameterRow c) x = begins_pattern x || if_typescript l (is k.ThisWord) x
+first l (ParametersRow c) x = is k.Ellipsis x || (begins_pattern x || if_typed l (is k.ThisWord) x)
+first l (ParameterRow c) x = begins_pattern x || if_typed l (is k.ThisWord) x
 first l (PatternRow true c) x = is k.OpenBracket x || is k.OpenBrace x
 first l (PatternRow false c) x = begins_pattern x
 first l (InnerPatternRow true c) x = begins_chain x
@@ -134,8 +133,8 @@ first l (PowerRow c) x = begins_operand x
 first l (UnaryRow c) x = begins_operand x
 first l (ChainRow c) x = begins_chain x
 first l (CalleeRow c) x = begins_chain x
-first l (PostRow c) x = begins_post x || if_typescript l (λ y. opens_non_null y || begins_angle y) x
-first l (MemberPostRow c) x = begins_member x || if_typescript l opens_non_null x
+first l (PostRow c) x = begins_post x || if_typed l (λ y. opens_non_null y || begins_angle y) x
+first l (MemberPostRow c) x = begins_member x || if_typed l opens_non_null x
 first l (ArgumentsRow c) x = is k.OpenParen x
 first l (ElementRow c) x = is k.Ellipsis x || begins_value l x
 first l (TemplateRow c) x = is k.TemplateWhole x || is k.TemplateHead x

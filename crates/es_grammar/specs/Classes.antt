@@ -3,7 +3,7 @@ use Rattle.std.specs.Prelude.{ℕ, zero, suc, ◌+◌, Bool, true, not, ◌&&◌
 use Rattle.es_token.specs.declared.token.TokenKind.{TokenKind}
 use Rattle.es_token.specs.declared.token.TokenKind.TheVariants as k
 use Rattle.grammar_theory.specs.declared.error.Lang.{Lang}
-use Rattle.grammar_theory.specs.declared.error.Lang.TheVariants as lang
+use Rattle.grammar_theory.specs.Languages.{typed}
 use Rattle.grammar_theory.specs.Key.{Key, seen, same_kind, has_kind, is}
 use Rattle.grammar_theory.specs.Productions.{as_name, as_kind, as_there, greedy, by_predicate, Predicate, Rhs, done, tok, punct, row, opt, where_, Production, make, choose, pick}
 use Rattle.es_grammar.specs.types.Words.{only, is_name, is_accessor_word, is_near}
@@ -17,7 +17,7 @@ use Rattle.es_grammar.specs.declared.rows.Row.{Row}
 use Rattle.es_grammar.specs.declared.rows.NodeKind.{NodeKind}
 use Rattle.es_grammar.specs.declared.rows.Row.TheVariants.{BlockRow, SignatureRow, KeyRow, AssignmentRow}
 use Rattle.es_grammar.specs.Rows.{async_in}
-use Rattle.es_grammar.specs.Embedding.{label_by, type_then, annotation_in, plain_form}
+use Rattle.es_grammar.specs.Embedding.{label_by, type_then, annotation_in, plain_form, typed_before, typed_in}
 use Rattle.es_grammar.specs.Expressions.{star_in, body_in}
 use Rattle.es_grammar.specs.Functions.{is_typed_modifier, modifiers_in, mark_in, opens_any_method, typed_head_in}
 
@@ -56,13 +56,14 @@ value_in c =
 
 -- Mod*, or 'static'?, and what stands behind them
 unfoldable pub head_in : Lang → Rhs Row → Rhs Row
-head_in lang.Es f = static_in (where_ is_plain_member f)
-head_in lang.Typescript f = modifiers_in opens_modifier (where_ is_member_key f)
+head_in l f =
+    if typed l then modifiers_in opens_modifier (where_ is_member_key f) else static_in (where_ is_plain_member f)
 
 -- Mod*, or 'static'?, and a word or sign before the key
 unfoldable pub marked_in : Lang → (Rhs Row → Rhs Row) → Rhs Row → Rhs Row
-marked_in lang.Es word_in f = static_in (word_in (where_ is_plain_member f))
-marked_in lang.Typescript word_in f = modifiers_in opens_modifier (word_in (where_ is_member_key f))
+marked_in l word_in f =
+    if typed l then modifiers_in opens_modifier (word_in (where_ is_member_key f))
+    else static_in (word_in (where_ is_plain_member f))
 
 abbrev pub accessor_word_in : Rhs Row → Rhs Row
 accessor_word_in f = tok as_kind is_accessor_word f
@@ -78,24 +79,25 @@ field_word_in f = punct k.AccessorWord f
 
 -- the predicate behind the modifiers
 abbrev pub behind : Lang → Predicate → Predicate
-behind lang.Es g = behind_static g
-behind lang.Typescript g = behind_all g
+behind l g = if typed l then behind_all g else behind_static g
 
 -- Key (TS '?')? Sig (Block | TS END), the key in one place, signature and body in another
 unfoldable pub class_method_in : Lang → Context → Context → Rhs Row
-class_method_in lang.Es c d = row (KeyRow true c) (row (SignatureRow d) (body_in lang.Es d))
-class_method_in lang.Typescript c d = typed_head_in true c d mark_in (body_in lang.Typescript d)
+class_method_in l c d =
+    if typed l then typed_head_in true c d mark_in (body_in l d)
+    else row (KeyRow true c) (row (SignatureRow d) (body_in l d))
 
 -- `?` or `!` behind the key of a field
 unfoldable pub is_field_mark : TokenKind → Bool
 is_field_mark kind = same_kind kind k.Question || same_kind kind k.Exclamation
 
+-- ('?' | '!')? (':' Type)?, and what stands behind them
+abbrev pub field_type_in : Rhs Row → Rhs Row
+field_type_in f = opt (greedy (has_kind is_field_mark)) (tok as_kind is_field_mark done) (annotation_in f)
+
 -- Key (TS '?' | TS '!')? (TS ':' Type)? ('=' Assign)? END
 unfoldable pub field_in : Lang → Context → Rhs Row
-field_in lang.Es c = row (KeyRow true c) (value_in c)
-field_in lang.Typescript c =
-    row (KeyRow true c) (opt (greedy (has_kind is_field_mark)) (tok as_kind is_field_mark done) (annotation_in
-    (value_in c)))
+field_in l c = row (KeyRow true c) (typed_in l field_type_in (value_in c))
 
 -- Member, with its modifiers: ('get' | 'set' | 'async'? '*'?) Key (TS '?')? Sig (Block | TS END)
 --         | 'accessor'? Key (TS '?' | TS '!')? (TS ':' Type)? ('=' Assign)? END
@@ -120,8 +122,7 @@ index_member =
     (type_then (punct k.CloseBracket (annotation_in (plain_form ended))))))))
 
 unfoldable pub any_member : Lang → Context → Production Row NodeKind
-any_member lang.Es c = modified_member lang.Es c
-any_member lang.Typescript c = pick (behind_all shows_index) index_member (modified_member lang.Typescript c)
+any_member l c = typed_before l (pick (behind_all shows_index) index_member) (modified_member l c)
 
 -- Member: ';' | 'static' Block | and those with modifiers
 unfoldable pub member : Lang → Context → Production Row NodeKind

@@ -18,7 +18,7 @@ use Rattle.es_grammar.specs.declared.rows.Row.{Row}
 use Rattle.es_grammar.specs.declared.rows.NodeKind.{NodeKind}
 use Rattle.es_grammar.specs.declared.rows.Row.TheVariants.{ItemRow, EntityRow, VariablesRow, UsingRow, DeclaredRow, KeyRow, TypesRow}
 use Rattle.es_grammar.specs.Rows.{outside}
-use Rattle.es_grammar.specs.Embedding.{type_then, type_parameters_in, plain_form}
+use Rattle.es_grammar.specs.Embedding.{type_then, type_parameters_in, plain_form, typed_before}
 use Rattle.es_grammar.specs.Expressions.{function, async_function, class_, abstract_class, opens_abstract_class, references_in}
 use Rattle.es_grammar.specs.Functions.{default_in}
 use Rattle.es_grammar.specs.Statements.{block, keyword_statement, other_statement}
@@ -156,16 +156,18 @@ plain_declaration l c other =
     (pick opens_using (make UsingDeclaration (row (UsingRow c) (plain_form ended)))
     (pick opens_async_function (async_function l true c) other))))
 
+-- the declarations of TypeScript alone, and in place of these another rule
+abbrev pub declaration_of_types : Context → Production Row NodeKind → Production Row NodeKind
+declaration_of_types c other =
+    pick opens_enum (enum_ c)
+    (pick opens_declare (declare c)
+    (pick opens_abstract_class (abstract_class true c) (typed_declaration c other)))
+
 -- Decl: Var END | Using END | Fn | Class
 --       | TS 'declare'? (InterfaceDeclaration | AliasDeclaration | EnumDeclaration | Space)
 --       | TS 'declare' (Var END | Fn | Class)
 unfoldable pub declaration : Lang → Context → Production Row NodeKind → Production Row NodeKind
-declaration lang.Es c other = plain_declaration lang.Es c other
-declaration lang.Typescript c other =
-    pick opens_enum (enum_ c)
-    (pick opens_declare (declare c)
-    (pick opens_abstract_class (abstract_class true c)
-    (typed_declaration c (plain_declaration lang.Typescript c other))))
+declaration l c other = typed_before l (declaration_of_types c) (plain_declaration l c other)
 
 -- Stmt
 unfoldable pub statement : Lang → Context → Production Row NodeKind

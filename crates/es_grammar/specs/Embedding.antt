@@ -1,9 +1,9 @@
 -- A table inside a table: a rule whose rows and alternatives are named by those of the outer table. So the types of
 -- TypeScript, and what imports and exports bind, stand in the table of programs as they stand in their own.
-use Rattle.std.specs.Prelude.{leb, Bool, true, false, ◌&&◌, ◌||◌, List}
+use Rattle.std.specs.Prelude.{leb, Bool, true, false, ◌&&◌, ◌||◌, List, if◌then◌else◌}
 use Rattle.es_token.specs.declared.token.TokenKind.TheVariants as k
 use Rattle.grammar_theory.specs.declared.error.Lang.{Lang}
-use Rattle.grammar_theory.specs.declared.error.Lang.TheVariants as lang
+use Rattle.grammar_theory.specs.Languages.{typed}
 use Rattle.grammar_theory.specs.Key.{Key, TokenTest, seen, is}
 use Rattle.grammar_theory.specs.Productions.{as_str, as_name, as_there, by_lookahead, greedy, by_predicate, Predicate, Rhs, done, tok, punct, row, opt, many, alt, when_, where_, Production, refuse, make, choose, as_, pick, wrap}
 use Rattle.grammar_theory.specs.Plain.{Plain, plain, none_leans, tall}
@@ -116,17 +116,20 @@ equals_in l f =
 abbrev pub types_rule : Production TypeRow table.NodeKind → Production Row NodeKind
 types_rule a = mapped_rule TypesRow label_name a
 
--- the alternative; in TypeScript another one, where its parts differ there
+-- the alternative; with types another one, where its parts differ then
 abbrev pub label_by : Lang → NodeKind → NodeKind → NodeKind
-label_by lang.Es one other = one
-label_by lang.Typescript one other = other
+label_by l one other = if typed l then other else one
 
 -- ---- parts that hold types
 
 -- a part of TypeScript alone, and what stands behind it
 abbrev pub typed_in : Lang → (Rhs Row → Rhs Row) → Rhs Row → Rhs Row
-typed_in lang.Es part f = f
-typed_in lang.Typescript part f = part f
+typed_in l part f = if typed l then part f else f
+
+-- a rule that has alternatives of TypeScript alone before the others
+abbrev pub typed_before : Lang → (Production Row NodeKind → Production Row NodeKind) → Production Row NodeKind
+    → Production Row NodeKind
+typed_before l part a = if typed l then part a else a
 
 -- a type, and what stands behind it
 abbrev pub type_then : Rhs Row → Rhs Row

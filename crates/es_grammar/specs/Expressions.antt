@@ -1,12 +1,13 @@
 -- Expressions in both languages (ECMA-262, "ECMAScript Language: Expressions"; the handbook of TypeScript), templates,
 -- functions and classes.
-use Rattle.std.specs.Prelude.{◌+◌, ◌-◌, Bool, true, false, not, ◌&&◌, ◌||◌}
+use Rattle.std.specs.Prelude.{◌+◌, ◌-◌, Bool, true, false, not, ◌&&◌, ◌||◌, if◌then◌else◌}
 use Rattle.es_token.specs.declared.token.TokenKind.{TokenKind}
 use Rattle.es_token.specs.declared.token.TokenKind.TheVariants as k
 use Rattle.grammar_theory.specs.declared.error.Lang.{Lang}
 use Rattle.grammar_theory.specs.declared.error.Lang.TheVariants as lang
+use Rattle.grammar_theory.specs.Languages.{typed}
 use Rattle.grammar_theory.specs.Key.{TokenTest, seen, same_kind, has_kind, is, is_after_line}
-use Rattle.grammar_theory.specs.Productions.{as_str, as_name, as_raw, as_kind, as_there, by_lookahead, greedy, by_predicate, Predicate, Rhs, done, tok, punct, row, opt, many, alt, when_, where_, Production, make, choose, pick, wrap}
+use Rattle.grammar_theory.specs.Productions.{as_str, as_name, as_raw, as_kind, as_there, by_lookahead, greedy, by_predicate, Predict, Predicate, Rhs, done, tok, punct, row, opt, many, alt, when_, where_, Production, make, choose, pick, wrap}
 use Rattle.grammar_theory.specs.Tells.{none}
 use Rattle.es_grammar.specs.types.Words.{only, is_name, is_numeric, is_near, is_other, closes_before}
 use Rattle.es_grammar.specs.declared.rows.NodeKind.TheVariants.{AbstractClass, Arguments, ArrayLiteral, Assignment, AsyncFunction, AsyncNameArrow, AsyncParenthesizedArrow, AwaitExpression, Binary, CallPost, Chain, Class, Conditional, Function, ImportCall, SourceCall, DeferCall, ImportMeta, IndexPost, MemberPost, Name, NameArrow, New, NewTarget, NonNullPost, Number, ObjectLiteral, OptionalPost, Parenthesized, ParenthesizedArrow, PatternAssignment, PrivateIn, RegExp, Sequence, Spread, Str, Super, Template, TemplateParts, TemplatePost, TypedAsyncFunction, TypedAsyncParenthesizedArrow, TypedBinary, TypedCallPost, TypedClass, TypedFunction, TypedNew, TypedOptionalPost, TypedParenthesizedArrow, TypedTemplatePost, UnaryExpression, UpdatePostfix, UpdatePrefix, Word, Yield}
@@ -19,7 +20,7 @@ use Rattle.es_grammar.specs.declared.rows.Row.{Row}
 use Rattle.es_grammar.specs.declared.rows.NodeKind.{NodeKind}
 use Rattle.es_grammar.specs.declared.rows.Row.TheVariants.{BlockRow, SignatureRow, ParametersRow, PatternRow, PropertyRow, ExpressionRow, AssignmentRow, AndRow, BitOrRow, BitXorRow, BitAndRow, EqualityRow, RelationRow, RightRow, ShiftRow, SumRow, ProductRow, PowerRow, UnaryRow, ChainRow, CalleeRow, PostRow, MemberPostRow, ArgumentsRow, ElementRow, TemplateRow, MemberRow, TypesRow}
 use Rattle.es_grammar.specs.Rows.{outside, async_in, async_here, without_colon}
-use Rattle.es_grammar.specs.Embedding.{label_by, typed_in, type_then, plain_form, type_parameters_in, type_arguments_in, reads_before, begins_call, opens_call_arguments, opens_heritage_arguments}
+use Rattle.es_grammar.specs.Embedding.{label_by, typed_in, type_then, plain_form, type_parameters_in, type_arguments_in, reads_before, begins_call, opens_call_arguments, opens_heritage_arguments, typed_before}
 
 -- `as` or `satisfies`, on the line of the token before it
 unfoldable pub is_assertion_word : TokenKind → Bool
@@ -30,8 +31,7 @@ opens_assertion x = is_near x && has_kind is_assertion_word x
 
 -- in TypeScript an expression may also begin with `<`: an arrow's type parameters
 abbrev pub begins_value : Lang → TokenTest
-begins_value lang.Es x = begins_expression x
-begins_value lang.Typescript x = is k.Less x || begins_expression x
+begins_value l x = (typed l && is k.Less x) || begins_expression x
 
 -- ---- type arguments of `new`
 
@@ -59,18 +59,17 @@ opens_new_arguments K at = begins_angle (seen K at) && reads_before types.Argume
 
 -- in TypeScript `(` opens an arrow also where its `)` is followed by `:`, unless no `:` opens a result here
 abbrev pub follows_parameters : Lang → Context → TokenTest
-follows_parameters lang.Es c x = is_arrow x
-follows_parameters lang.Typescript c x = is_arrow x || (not c.no_colon && is k.Colon x)
+follows_parameters l c x = if typed l then is_arrow x || (not c.no_colon && is k.Colon x) else is_arrow x
 
 unfoldable pub opens_parameters_of_arrow : Lang → Context → Predicate
 opens_parameters_of_arrow l c K at = is k.OpenParen (seen K at) && closes_before (follows_parameters l c) K at
 
 -- a name before `=>` on its line, such a `(`; in TypeScript also `<`
 unfoldable pub opens_arrow_here : Lang → Context → Predicate
-opens_arrow_here lang.Es c K at = opens_plain_arrow K at
-opens_arrow_here lang.Typescript c K at =
-    (has_kind is_name (seen K at) && is_arrow (seen K (at + 1)))
-    || (opens_parameters_of_arrow lang.Typescript c K at || is k.Less (seen K at))
+opens_arrow_here l c K at =
+    if typed l then (has_kind is_name (seen K at) && is_arrow (seen K (at + 1)))
+    || (opens_parameters_of_arrow l c K at || is k.Less (seen K at))
+    else opens_plain_arrow K at
 
 -- `<` behind `async` on its line opens one exactly where type parameters can be read there and such a `(` follows
 unfoldable pub opens_generic_async : Context → Predicate
@@ -79,11 +78,11 @@ opens_generic_async c K at =
 
 -- `async` before such a name or `(` on its line
 unfoldable pub opens_async_here : Lang → Context → Predicate
-opens_async_here lang.Es c K at = opens_async_arrow K at
-opens_async_here lang.Typescript c K at =
-    is k.AsyncWord (seen K at) && (not (is_arrow (seen K (at + 1))) && (is_near (seen K (at + 1))
+opens_async_here l c K at =
+    if typed l then is k.AsyncWord (seen K at) && (not (is_arrow (seen K (at + 1))) && (is_near (seen K (at + 1))
     && ((has_kind is_name (seen K (at + 1)) && is_arrow (seen K (at + 2)))
-    || (opens_parameters_of_arrow lang.Typescript c K (at + 1) || opens_generic_async c K (at + 1)))))
+    || (opens_parameters_of_arrow l c K (at + 1) || opens_generic_async c K (at + 1)))))
+    else opens_async_arrow K at
 
 unfoldable pub opens_any_arrow : Lang → Context → Predicate
 opens_any_arrow l c K at = opens_arrow_here l c K at || opens_async_here l c K at
@@ -111,8 +110,7 @@ parameters_arrow_in l parameters c d =
 
 -- a token that begins an arrow's parameters in brackets
 abbrev pub begins_parameters : Lang → TokenTest
-begins_parameters lang.Es x = is k.OpenParen x
-begins_parameters lang.Typescript x = is k.OpenParen x || is k.Less x
+begins_parameters l x = if typed l then is k.OpenParen x || is k.Less x else is k.OpenParen x
 
 -- Name ~ '=>' .. | (TS TParams)? '(' Params ')' (TS ':' Ret)? ~ '=>' ..
 unfoldable pub plain_arrow : Lang → Context → Production Row NodeKind
@@ -122,8 +120,8 @@ plain_arrow l c =
     (make NameArrow (tok as_name is_name (arrow_in c c)))
 
 unfoldable pub opens_async_list : Lang → Predicate
-opens_async_list lang.Es K at = opens_async_parenthesis K at
-opens_async_list lang.Typescript K at = is k.OpenParen (seen K (at + 1)) || is k.Less (seen K (at + 1))
+opens_async_list l K at =
+    if typed l then is k.OpenParen (seen K (at + 1)) || is k.Less (seen K (at + 1)) else opens_async_parenthesis K at
 
 -- 'async' ~ Name ~ '=>' .. | 'async' ~ (TS TParams)? '(' Params ')' (TS ':' Ret)? ~ '=>' ..
 unfoldable pub async_arrow : Lang → Context → Production Row NodeKind
@@ -161,15 +159,15 @@ opens_class_name K at =
 
 -- a class's name
 unfoldable pub class_name_in : Lang → Bool → Rhs Row → Rhs Row
-class_name_in lang.Es named f = name_in named f
-class_name_in lang.Typescript true f = name_in true f
-class_name_in lang.Typescript false f = opt (by_predicate opens_class_name) (tok as_name is_name done) f
+class_name_in l true f = name_in true f
+class_name_in l false f =
+    if typed l then opt (by_predicate opens_class_name) (tok as_name is_name done) f else name_in false f
 
 -- Block | TS END: a function's block is taken where its `{` is there
 unfoldable pub body_in : Lang → Context → Rhs Row
-body_in lang.Es c = row (BlockRow c) done
-body_in lang.Typescript c =
-    alt (is k.OpenBrace) (row (BlockRow c) done) (when_ (is_other k.OpenBrace) (plain_form ended)) done
+body_in l c =
+    if typed l then alt (is k.OpenBrace) (row (BlockRow c) done) (when_ (is_other k.OpenBrace) (plain_form ended)) done
+    else row (BlockRow c) done
 
 -- 'function' '*'? Name? Sig (Block | TS END)
 unfoldable pub function : Lang → Bool → Context → Production Row NodeKind
@@ -224,8 +222,7 @@ opens_abstract_class K at = is k.AbstractWord (seen K at) && is k.ClassWord (see
 
 -- Class
 unfoldable pub any_class : Lang → Bool → Context → Production Row NodeKind
-any_class lang.Es named c = class_ lang.Es named c
-any_class lang.Typescript named c = choose (is k.AbstractWord) (abstract_class named c) (class_ lang.Typescript named c)
+any_class l named c = typed_before l (choose (is k.AbstractWord) (abstract_class named c)) (class_ l named c)
 
 -- ---- primary expressions
 
@@ -249,18 +246,17 @@ object_literal c =
 
 -- `(` that opens no arrow
 unfoldable pub opens_no_arrow : Lang → Context → Predicate
-opens_no_arrow lang.Es c K at = is_no_arrow_head K at
-opens_no_arrow lang.Typescript c K at = not (closes_before (follows_parameters lang.Typescript c) K at)
+opens_no_arrow l c K at =
+    if typed l then not (closes_before (follows_parameters l c) K at) else is_no_arrow_head K at
 
 -- a name that is no part of an arrow, a function, or in TypeScript an abstract class
 unfoldable pub name_expression : Production Row NodeKind
 name_expression = make Name (tok as_name is_name (when_ no_arrow done))
 
 unfoldable pub named_primary : Lang → Context → Production Row NodeKind
-named_primary lang.Es c = pick opens_async_function (async_function lang.Es false c) name_expression
-named_primary lang.Typescript c =
-    pick opens_async_function (async_function lang.Typescript false c)
-    (pick opens_abstract_class (abstract_class false c) name_expression)
+named_primary l c =
+    pick opens_async_function (async_function l false c)
+    (typed_before l (pick opens_abstract_class (abstract_class false c)) name_expression)
 
 -- Prim
 unfoldable pub primary : Lang → Context → Production Row NodeKind
@@ -348,8 +344,7 @@ opens_non_null x = is_near x && is k.Exclamation x
 
 -- a token that begins a member, or in TypeScript such a `!`
 abbrev pub begins_callee_post : Lang → TokenTest
-begins_callee_post lang.Es x = begins_member x
-begins_callee_post lang.Typescript x = begins_member x || opens_non_null x
+begins_callee_post l x = if typed l then begins_member x || opens_non_null x else begins_member x
 
 -- a token that begins a further part of a chain, or in TypeScript `<` or `<<` that opens type arguments
 unfoldable pub opens_post : Predicate
@@ -369,13 +364,11 @@ non_null_post = make NonNullPost (when_ is_near (punct k.Exclamation done))
 
 -- '.' (Name | PrivateName) | '[' Expr ']' | Tpl | TS ~ '!'
 unfoldable pub member_post : Lang → Context → Production Row NodeKind
-member_post lang.Es c = plain_member_post c
-member_post lang.Typescript c = choose (is k.Exclamation) non_null_post (plain_member_post c)
+member_post l c = typed_before l (choose (is k.Exclamation) non_null_post) (plain_member_post c)
 
 -- the arguments of a call behind `?.`
 abbrev pub begins_arguments : Lang → TokenTest
-begins_arguments lang.Es x = is k.OpenParen x
-begins_arguments lang.Typescript x = is k.OpenParen x || begins_angle x
+begins_arguments l x = if typed l then is k.OpenParen x || begins_angle x else is k.OpenParen x
 
 -- '?.' (Name | PrivateName | '[' Expr ']' | (TS TArgs)? Args)
 unfoldable pub optional_post : Lang → Context → Production Row NodeKind
@@ -397,24 +390,25 @@ opens_call K at =
 unfoldable pub opens_typed_template : Predicate
 opens_typed_template K at = begins_angle (seen K at)
 
+-- (TS TArgs)? Args | TS TArgs Tpl, and in place of these another rule
+abbrev pub call_post : Lang → Context → Production Row NodeKind → Production Row NodeKind
+call_post l c other =
+    if typed l then pick opens_call (make TypedCallPost (type_arguments_in (row (ArgumentsRow c) done)))
+    (pick opens_typed_template (make TypedTemplatePost (type_arguments_in (row (TemplateRow c) done))) other)
+    else choose (is k.OpenParen) (make CallPost (row (ArgumentsRow c) done)) other
+
 -- Post: '.' (Name | PrivateName) | '[' Expr ']' | (TS TArgs)? Args | (TS TArgs)? Tpl | '?.' .. | TS ~ '!'
 unfoldable pub post : Lang → Context → Production Row NodeKind
-post lang.Es c =
-    choose (is k.OpenParen) (make CallPost (row (ArgumentsRow c) done))
-    (choose (is k.QuestionDot) (optional_post lang.Es c) (member_post lang.Es c))
-post lang.Typescript c =
-    pick opens_call (make TypedCallPost (type_arguments_in (row (ArgumentsRow c) done)))
-    (pick opens_typed_template (make TypedTemplatePost (type_arguments_in (row (TemplateRow c) done)))
-    (choose (is k.QuestionDot) (optional_post lang.Typescript c) (member_post lang.Typescript c)))
+post l c = call_post l c (choose (is k.QuestionDot) (optional_post l c) (member_post l c))
+
+-- what tells that a chain goes on
+abbrev pub before_post : Lang → Predict
+before_post l = if typed l then by_predicate opens_post else greedy begins_post
 
 -- Chain: Base Post*
 unfoldable pub chain : Lang → Context → Production Row NodeKind
-chain lang.Es c =
-    wrap Chain (base lang.Es true c) (greedy begins_post)
-    (row (PostRow c) (many (greedy begins_post) (row (PostRow c) done) done))
-chain lang.Typescript c =
-    wrap Chain (base lang.Typescript true c) (by_predicate opens_post)
-    (row (PostRow c) (many (by_predicate opens_post) (row (PostRow c) done) done))
+chain l c =
+    wrap Chain (base l true c) (before_post l) (row (PostRow c) (many (before_post l) (row (PostRow c) done) done))
 
 -- Chain1: a Chain with no Args, no `?.` and no TArgs, and no import call at its front
 unfoldable pub callee : Lang → Context → Production Row NodeKind
@@ -448,8 +442,7 @@ unary l c = choose (has_kind is_prefix) (prefix c done) (choose (is k.AwaitWord)
 
 -- in TypeScript `**` may stand at the level of `<` too, behind a type: not behind such an operand
 unfoldable pub no_power : Lang → Rhs Row
-no_power lang.Es = done
-no_power lang.Typescript = when_ (is_other k.StarStar) done
+no_power l = if typed l then when_ (is_other k.StarStar) done else done
 
 -- Unary | (Chain or update) '**' Power
 unfoldable pub power : Lang → Context → Production Row NodeKind
@@ -470,8 +463,8 @@ sum l c = level is_sum (ProductRow c) (product l c)
 
 -- '<<' | '>>' | '>>>', in TypeScript `<<` only where it opens no type arguments
 unfoldable pub opens_shift_in : Lang → Predicate
-opens_shift_in lang.Es K at = opens_shift K at
-opens_shift_in lang.Typescript K at = opens_shift K at && not (opens_call_arguments K at)
+opens_shift_in l K at =
+    if typed l then opens_shift K at && not (opens_call_arguments K at) else opens_shift K at
 
 -- these behind an operand
 unfoldable pub shifted : Lang → Context → Production Row NodeKind → Production Row NodeKind
@@ -494,11 +487,10 @@ is_tight kind =
 -- word, `<` only where it opens no type arguments, and the tighter operators of one token: behind an operand their own
 -- level has taken them, and behind a type they go on from here
 unfoldable pub opens_comparison : Lang → Context → Predicate
-opens_comparison lang.Es c K at =
-    opens_greater K at || (has_kind is_relation (seen K at) && not (c.no_in && is k.InWord (seen K at)))
-opens_comparison lang.Typescript c K at =
-    opens_greater K at || (opens_assertion (seen K at) || (has_kind is_tight (seen K at)
+opens_comparison l c K at =
+    if typed l then opens_greater K at || (opens_assertion (seen K at) || (has_kind is_tight (seen K at)
     && (not (c.no_in && is k.InWord (seen K at)) && not (opens_call_arguments K at))))
+    else opens_greater K at || (has_kind is_relation (seen K at) && not (c.no_in && is k.InWord (seen K at)))
 
 unfoldable pub may_test : Context → Predicate
 may_test c K at = not c.no_in
@@ -556,12 +548,10 @@ no_form = when_ none (punct k.Semicolon done)
 
 -- in TypeScript `>>` and `>>>` behind a type go on outside: a run of `>` doesn't tell by its end how long it is
 unfoldable pub relation : Lang → Context → Production Row NodeKind
-relation lang.Es c =
-    wrap Binary (choose (is k.PrivateName) (private_in c) (shift lang.Es c))
-    (by_predicate (opens_comparison lang.Es c)) (comparison_in c)
-relation lang.Typescript c =
-    shifted lang.Typescript c (wrap TypedBinary (choose (is k.PrivateName) (private_in c) (shift lang.Typescript c))
-    (by_predicate (opens_comparison lang.Typescript c)) (asserted_or (tight_in c)))
+relation l c =
+    typed_before l (shifted l c)
+    (wrap (label_by l Binary TypedBinary) (choose (is k.PrivateName) (private_in c) (shift l c))
+    (by_predicate (opens_comparison l c)) (if typed l then asserted_or (tight_in c) else comparison_in c))
 
 unfoldable pub equality : Lang → Context → Production Row NodeKind
 equality l c = level is_equality (RelationRow c) (relation l c)

@@ -1,10 +1,10 @@
 -- Parameters and patterns in both languages (ECMA-262, "Function Definitions" and "Destructuring Binding Patterns"; the
 -- handbook of TypeScript, "More on Functions"), keys, and properties of objects.
-use Rattle.std.specs.Prelude.{ℕ, zero, suc, ◌+◌, Bool, true, false, not, ◌&&◌, ◌||◌, List, Option, Some, None, slice_get, length}
+use Rattle.std.specs.Prelude.{ℕ, zero, suc, ◌+◌, Bool, true, false, not, ◌&&◌, ◌||◌, List, Option, Some, None, slice_get, length, if◌then◌else◌}
 use Rattle.es_token.specs.declared.token.TokenKind.{TokenKind}
 use Rattle.es_token.specs.declared.token.TokenKind.TheVariants as k
 use Rattle.grammar_theory.specs.declared.error.Lang.{Lang}
-use Rattle.grammar_theory.specs.declared.error.Lang.TheVariants as lang
+use Rattle.grammar_theory.specs.Languages.{typed}
 use Rattle.grammar_theory.specs.Key.{Key, Seen, TokenTest, seen, same_kind, has_kind, is}
 use Rattle.grammar_theory.specs.Productions.{as_str, as_name, as_raw, as_kind, as_there, by_lookahead, greedy, by_predicate, Predicate, Rhs, done, tok, punct, row, opt, many, alt, when_, where_, Production, make, choose, as_, pick, wrap}
 use Rattle.es_grammar.specs.types.Words.{only, is_name, is_word, is_numeric, is_accessor_word, is_other, partner_of}
@@ -16,7 +16,7 @@ use Rattle.es_grammar.specs.declared.rows.Row.{Row}
 use Rattle.es_grammar.specs.declared.rows.NodeKind.{NodeKind}
 use Rattle.es_grammar.specs.declared.rows.Row.TheVariants.{BlockRow, SignatureRow, ParametersRow, ParameterRow, PatternRow, InnerPatternRow, PatternElementRow, PatternPropertyRow, KeyRow, AssignmentRow}
 use Rattle.es_grammar.specs.Rows.{outside, async_in, constructing}
-use Rattle.es_grammar.specs.Embedding.{label_by, typed_in, annotation_in, result_in, type_parameters_in}
+use Rattle.es_grammar.specs.Embedding.{label_by, typed_in, annotation_in, result_in, type_parameters_in, typed_before}
 use Rattle.es_grammar.specs.Expressions.{star_in, chain, opens_assertion, asserted_or, no_form}
 
 -- ---- patterns
@@ -40,11 +40,13 @@ object_pattern t c =
     (row (PatternPropertyRow t c) (opt (greedy (is_other k.CloseBrace)) (punct k.Comma done) done))
     (punct k.CloseBrace done)))
 
+-- X ('as' Type | 'as' 'const' | 'satisfies' Type)*
+abbrev pub asserted_target : Production Row NodeKind → Production Row NodeKind
+asserted_target a = wrap TypedBinary a (greedy opens_assertion) (asserted_or no_form)
+
 -- a simple target: a chain, in TypeScript with `as` and `satisfies` behind it
 unfoldable pub target : Lang → Context → Production Row NodeKind
-target lang.Es c = as_ Target (chain lang.Es c)
-target lang.Typescript c =
-    as_ Target (wrap TypedBinary (chain lang.Typescript c) (greedy opens_assertion) (asserted_or no_form))
+target l c = as_ Target (typed_before l asserted_target (chain l c))
 
 unfoldable pub bracket_pattern : Bool → Context → Production Row NodeKind
 bracket_pattern t c = choose (is k.OpenBracket) (array_pattern t c) (object_pattern t c)
@@ -141,15 +143,13 @@ opens_marked K at = key_before is_parameter_mark K at
 -- Param: (TS Mod*)? (Pat | TS 'this') (TS '?')? (TS ':' Type)? ('=' Assign)?, without a node of its own where it is a
 -- pattern alone
 unfoldable pub parameter : Lang → Context → Production Row NodeKind
-parameter lang.Es c =
-    wrap DefaultParameter (pattern lang.Es false c) (greedy (is k.Equal))
-    (punct k.Equal (row (AssignmentRow (outside c)) (when_ (is_other k.Equal) done)))
-parameter lang.Typescript c =
-    choose (is k.ThisWord) (make ThisParameter (tok as_there (only k.ThisWord) (parameter_tail c)))
+parameter l c =
+    if typed l then choose (is k.ThisWord) (make ThisParameter (tok as_there (only k.ThisWord) (parameter_tail c)))
     (pick (opens_parameter_modifier c)
     (make PropertyParameter (modifiers_in (opens_parameter_modifier c) (row (PatternRow false c) (parameter_tail c))))
-    (pick opens_marked (make MarkedParameter (row (PatternRow false c) (parameter_tail c)))
-    (pattern lang.Typescript false c)))
+    (pick opens_marked (make MarkedParameter (row (PatternRow false c) (parameter_tail c))) (pattern l false c)))
+    else wrap DefaultParameter (pattern l false c) (greedy (is k.Equal))
+    (punct k.Equal (row (AssignmentRow (outside c)) (when_ (is_other k.Equal) done)))
 
 -- Sig: (TS TParams)? '(' Params ')' (TS ':' Ret)?
 unfoldable pub signature : Lang → Context → Production Row NodeKind
@@ -181,8 +181,8 @@ begins_method K at =
     opens_parameters (seen K at) || (is k.Question (seen K at) && opens_parameters (seen K (at + 1)))
 
 unfoldable pub opens_any_method : Lang → Predicate
-opens_any_method lang.Es K at = opens_method K at
-opens_any_method lang.Typescript K at = begins_method K (behind_key at (partner_of (slice_get K at)))
+opens_any_method l K at =
+    if typed l then begins_method K (behind_key at (partner_of (slice_get K at))) else opens_method K at
 
 -- a key and its signature; behind the key `constructor` the parameters are those of a constructor
 unfoldable pub typed_head_in : Bool → Context → Context → (Rhs Row → Rhs Row) → Rhs Row → Rhs Row
@@ -196,8 +196,9 @@ unmarked f = f
 
 -- Key Sig Block of a property, the key in one place, signature and body in another
 unfoldable pub method_in : Lang → Context → Context → Rhs Row
-method_in lang.Es c d = row (KeyRow false c) (row (SignatureRow d) (row (BlockRow d) done))
-method_in lang.Typescript c d = typed_head_in false c d unmarked (row (BlockRow d) done)
+method_in l c d =
+    if typed l then typed_head_in false c d unmarked (row (BlockRow d) done)
+    else row (KeyRow false c) (row (SignatureRow d) (row (BlockRow d) done))
 
 -- Prop: '...' Assign | Name | Key ':' Assign | ('get' | 'set' | 'async'? '*'?) Key Sig Block
 unfoldable pub property : Lang → Context → Production Row NodeKind

@@ -1,9 +1,9 @@
 -- Programs and the items of modules in both languages (ECMA-262, "Scripts and Modules"; the handbook of TypeScript,
 -- "Modules").
-use Rattle.std.specs.Prelude.{◌+◌, false, ◌||◌}
+use Rattle.std.specs.Prelude.{◌+◌, false, ◌||◌, if◌then◌else◌}
 use Rattle.es_token.specs.declared.token.TokenKind.TheVariants as k
 use Rattle.grammar_theory.specs.declared.error.Lang.{Lang}
-use Rattle.grammar_theory.specs.declared.error.Lang.TheVariants as lang
+use Rattle.grammar_theory.specs.Languages.{typed}
 use Rattle.grammar_theory.specs.Key.{seen, is, is_token}
 use Rattle.grammar_theory.specs.Productions.{as_raw, by_lookahead, greedy, Predicate, Rhs, done, tok, punct, row, opt, many, Production, make, choose, pick}
 use Rattle.es_grammar.specs.types.Words.{only}
@@ -16,14 +16,14 @@ use Rattle.es_grammar.specs.declared.rows.Row.{Row}
 use Rattle.es_grammar.specs.declared.rows.NodeKind.{NodeKind}
 use Rattle.es_grammar.specs.declared.rows.Row.TheVariants.{ItemRow, StatementRow, DeclarationRow, DeclaredRow, FunctionRow, ClassRow, ExpressionRow, AssignmentRow}
 use Rattle.es_grammar.specs.Rows.{in_module, in_script}
-use Rattle.es_grammar.specs.Embedding.{plain_rule, plain_form}
+use Rattle.es_grammar.specs.Embedding.{plain_rule, plain_form, typed_before}
 use Rattle.es_grammar.specs.Expressions.{opens_abstract_class}
 use Rattle.es_grammar.specs.Declarations.{opens_interface, opens_alias, opens_enum, opens_namespace, opens_module, opens_global, opens_declare, statement}
 
 -- behind `export default` stands a class, in TypeScript also an abstract one
 unfoldable pub opens_any_default_class : Lang → Predicate
-opens_any_default_class lang.Es K at = items.opens_default_class K at
-opens_any_default_class lang.Typescript K at = items.opens_default_class K at || opens_abstract_class K (at + 2)
+opens_any_default_class l K at =
+    if typed l then items.opens_default_class K at || opens_abstract_class K (at + 2) else items.opens_default_class K at
 
 unfoldable pub opens_default_interface : Predicate
 opens_default_interface K at = opens_interface K (at + 2)
@@ -39,8 +39,7 @@ unfoldable pub default_interface : Context → Production Row NodeKind
 default_interface c = make ExportDefaultInterface (punct k.ExportWord (punct k.DefaultWord (row (DeclaredRow c) done)))
 
 unfoldable pub other_default : Lang → Context → Production Row NodeKind
-other_default lang.Es c = default_expression c
-other_default lang.Typescript c = pick opens_default_interface (default_interface c) (default_expression c)
+other_default l c = typed_before l (pick opens_default_interface (default_interface c)) (default_expression c)
 
 -- 'export' 'default' (Fn | Class | TS Interface | Assign END)
 unfoldable pub export_default : Lang → Context → Production Row NodeKind
@@ -53,22 +52,21 @@ export_default l c =
 
 -- behind `export` stands a declaration
 unfoldable pub opens_any_declaration : Lang → Predicate
-opens_any_declaration lang.Es K at = items.opens_declaration K at
-opens_any_declaration lang.Typescript K at =
-    items.opens_declaration K at || (opens_enum K (at + 1) || (opens_declare K (at + 1)
+opens_any_declaration l K at =
+    if typed l then items.opens_declaration K at || (opens_enum K (at + 1) || (opens_declare K (at + 1)
     || (opens_abstract_class K (at + 1) || (opens_interface K (at + 1) || (opens_alias K (at + 1)
     || (opens_namespace K (at + 1) || (opens_module K (at + 1) || opens_global K (at + 1))))))))
+    else items.opens_declaration K at
 
 unfoldable pub opens_export_assignment : Predicate
 opens_export_assignment K at = is k.Equal (seen K (at + 1))
 
 -- Export of names, with those of Modules.antt; TS 'export' '=' Expr END
 unfoldable pub export_names : Lang → Context → Production Row NodeKind
-export_names lang.Es c = plain_rule (modules.export_ lang.Es)
-export_names lang.Typescript c =
-    pick opens_export_assignment
-    (make ExportAssignment (punct k.ExportWord (punct k.Equal (row (ExpressionRow c) (plain_form ended)))))
-    (plain_rule (modules.export_ lang.Typescript))
+export_names l c =
+    typed_before l (pick opens_export_assignment
+    (make ExportAssignment (punct k.ExportWord (punct k.Equal (row (ExpressionRow c) (plain_form ended))))))
+    (plain_rule (modules.export_ l))
 
 -- Export: 'export' Decl | 'export' 'default' (Fn | Class | TS Interface | Assign END), and of names
 unfoldable pub export_item : Lang → Context → Production Row NodeKind

@@ -1,13 +1,8 @@
 -- Where a row of programs stands; its type, those of the rows and of the alternatives are in src/rows.rt.
-use Rattle.std.specs.Prelude.{Bool, true, false}
+use Rattle.std.specs.Prelude.{true, false, ◌||◌}
 use Rattle.grammar_theory.specs.declared.error.Lang.{Lang}
-use Rattle.grammar_theory.specs.declared.error.Lang.TheVariants as lang
+use Rattle.grammar_theory.specs.Languages.{typed}
 use Rattle.es_grammar.specs.declared.rows.Context.{Context}
-
--- the language is TypeScript
-abbrev pub is_typescript : Lang → Bool
-is_typescript lang.Es = false
-is_typescript lang.Typescript = true
 
 -- ---- places
 
@@ -78,13 +73,12 @@ async_here c = record {
 
 -- where no `:` opens an arrow's result
 abbrev pub without_colon : Lang → Context → Context
-without_colon lang.Es c = c
-without_colon lang.Typescript c = record {
+without_colon l c = record {
   script = c.script;
   as_module = c.as_module;
   no_in = c.no_in;
   in_async = c.in_async;
-  no_colon = true;
+  no_colon = typed l || c.no_colon;
   in_constructor = c.in_constructor;
 }
 

@@ -1,8 +1,8 @@
 -- Statements and variables in both languages (ECMA-262, "ECMAScript Language: Statements and Declarations").
-use Rattle.std.specs.Prelude.{◌+◌, ◌-◌, true, false, ◌&&◌, ◌||◌}
+use Rattle.std.specs.Prelude.{◌+◌, ◌-◌, true, false, ◌&&◌, ◌||◌, if◌then◌else◌}
 use Rattle.es_token.specs.declared.token.TokenKind.TheVariants as k
 use Rattle.grammar_theory.specs.declared.error.Lang.{Lang}
-use Rattle.grammar_theory.specs.declared.error.Lang.TheVariants as lang
+use Rattle.grammar_theory.specs.Languages.{typed}
 use Rattle.grammar_theory.specs.Key.{TokenTest, seen, has_kind, is}
 use Rattle.grammar_theory.specs.Productions.{as_name, as_kind, as_there, by_lookahead, greedy, by_predicate, Predicate, Rhs, done, tok, punct, row, opt, many, alt, when_, where_, Production, make, choose, pick, wrap}
 use Rattle.es_grammar.specs.types.Words.{only, is_name, is_near, is_other}
@@ -40,15 +40,14 @@ opens_declarator K at = key_before is_declarator_mark K at
 
 -- Dtor: Pat (TS ~ '!')? (TS ':' Type)? ('=' Assign)?, without a node of its own where it is a pattern alone
 unfoldable pub declarator : Lang → Context → Production Row NodeKind
-declarator lang.Es c =
-    wrap Declarator (pattern lang.Es false (outside c)) (greedy (is k.Equal))
-    (punct k.Equal (row (AssignmentRow c) (when_ (is_other k.Equal) done)))
-declarator lang.Typescript c =
-    pick opens_declarator
+declarator l c =
+    if typed l then pick opens_declarator
     (make TypedDeclarator (row (PatternRow false (outside c))
     (opt (greedy opens_non_null) (when_ is_near (tok as_there (only k.Exclamation) done))
     (annotation_in (opt (greedy (is k.Equal)) (punct k.Equal (row (AssignmentRow c) done)) done)))))
-    (pattern lang.Typescript false (outside c))
+    (pattern l false (outside c))
+    else wrap Declarator (pattern l false (outside c)) (greedy (is k.Equal))
+    (punct k.Equal (row (AssignmentRow c) (when_ (is_other k.Equal) done)))
 
 -- Dtor (',' Dtor)*
 unfoldable pub declarators : Context → Rhs Row
@@ -90,8 +89,8 @@ head_pattern l c =
 
 -- such a pattern; TS: Pat (':' Type)?
 unfoldable pub head_pattern_in : Lang → Context → Rhs Row
-head_pattern_in lang.Es c = row (HeadPatternRow c) done
-head_pattern_in lang.Typescript c = row (PatternRow false c) (annotation_in done)
+head_pattern_in l c =
+    if typed l then row (PatternRow false c) (annotation_in done) else row (HeadPatternRow c) done
 
 -- Head: ('var' | 'let' | 'const') (Pat (TS ':' Type)? | 'var' Name '=' Assign) | ('await' ~)? 'using' ~ Name | Target
 unfoldable pub head : Lang → Context → Production Row NodeKind

@@ -2,23 +2,13 @@
 
 ghost use Rattle.std.specs.Prelude.{◌≡◌, ◌+◌, ◌^◌, ◌<◌};
 ghost use Rattle.grammar_theory.specs.Key.{keys_of, seen};
-ghost use Rattle.es_grammar.specs.types.Modules.{is_typescript, may_end, opens_type_import, opens_type_name, is_renamed, is_no_type_as_as, has_comma, behind_type, names_before_equal, opens_equals, shows_require, opens_require, opens_bare, opens_source_import, opens_defer_import, opens_type_export, opens_all, opens_exported_equals, opens_exported_require, opens_namespace};
+ghost use Rattle.es_grammar.specs.types.Modules.{may_end, opens_type_import, opens_type_name, is_renamed, is_no_type_as_as, has_comma, behind_type, names_before_equal, opens_equals, shows_require, opens_require, opens_bare, opens_source_import, opens_defer_import, opens_type_export, opens_all, opens_exported_equals, opens_exported_require, opens_namespace};
 ghost use Rattle.es_grammar.specs.types.Items.{opens_import, opens_default, opens_default_function, opens_default_class, opens_declaration};
 
 use crate::looks::{self, is};
 use crate::tokens::Tokens;
 use es_token::TokenKind;
 use grammar_theory::Lang;
-
-/// The language is TypeScript.
-pub fn is_typescript(lang: Lang) -> bool
-    ensures { result ≡ is_typescript lang }
-{
-    match lang {
-        Lang::Es => false,
-        Lang::Typescript => true,
-    }
-}
 
 /// The place after the modifier `type`.
 fn behind_type(modified: bool, at: usize) -> usize
@@ -41,7 +31,7 @@ impl Tokens<'_> {
     pub fn opens_type_import(&self, lang: Lang, at: usize) -> bool
         ensures { result ≡ opens_type_import lang (keys_of self.now.tokens.now) at }
     {
-        if !is_typescript(lang) || !self.sees(TokenKind::TypeWord, at) {
+        if !lang.is_typed() || !self.sees(TokenKind::TypeWord, at) {
             return false;
         }
         let next = self.seen_after(at, 1);
@@ -56,7 +46,7 @@ impl Tokens<'_> {
     pub fn opens_type_name(&self, lang: Lang, at: usize) -> bool
         ensures { result ≡ opens_type_name lang (keys_of self.now.tokens.now) at }
     {
-        if !is_typescript(lang) || !self.sees(TokenKind::TypeWord, at) {
+        if !lang.is_typed() || !self.sees(TokenKind::TypeWord, at) {
             return false;
         }
         let next = self.seen_after(at, 1);
@@ -97,7 +87,7 @@ impl Tokens<'_> {
     pub fn names_before_equal(&self, lang: Lang, at: usize) -> bool
         ensures { result ≡ names_before_equal lang (keys_of self.now.tokens.now) at }
     {
-        if !is_typescript(lang) {
+        if !lang.is_typed() {
             return false;
         }
         if self.opens_type_import(lang, at) {
@@ -170,7 +160,7 @@ impl Tokens<'_> {
     pub fn opens_type_export(&self, lang: Lang, at: usize) -> bool
         ensures { result ≡ opens_type_export lang (keys_of self.now.tokens.now) at }
     {
-        if !is_typescript(lang) || !self.sees(TokenKind::TypeWord, at) {
+        if !lang.is_typed() || !self.sees(TokenKind::TypeWord, at) {
             return false;
         }
         let next = self.seen_after(at, 1);
@@ -216,7 +206,7 @@ impl Tokens<'_> {
     pub fn opens_namespace(&self, lang: Lang, at: usize) -> bool
         ensures { result ≡ opens_namespace lang (keys_of self.now.tokens.now) at }
     {
-        is_typescript(lang) && is(TokenKind::AsWord, self.seen_after(at, 1))
+        lang.is_typed() && is(TokenKind::AsWord, self.seen_after(at, 1))
     }
 
     /// `import` heads an import but before `(` or `.`.

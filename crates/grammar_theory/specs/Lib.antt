@@ -1,3 +1,5 @@
+-- what a language has
+pub mod Languages
 -- the language in which a grammar is written, and what it means
 pub mod Key
 pub mod Productions

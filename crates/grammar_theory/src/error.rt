@@ -1,5 +1,6 @@
 ghost use Rattle.std.specs.Prelude.{◌≡◌};
 ghost use Rattle.grammar_theory.specs.declared.error.SyntaxError.TheVariants.{OutOfMemory};
+ghost use Rattle.grammar_theory.specs.Languages.{typed};
 
 use std::alloc::AllocError;
 use std::error::Error;
@@ -12,6 +13,15 @@ pub enum Lang {
     Es,
     /// ECMAScript with the types and declarations of TypeScript.
     Typescript,
+}
+
+impl Lang {
+    /// Whether the language has the types and declarations of TypeScript.
+    pub fn is_typed(self) -> bool
+        ensures { result ≡ typed self }
+    {
+        matches!(self, Lang::Typescript)
+    }
 }
 
 /// The goal symbol that a text is read by (ECMA-262, "Scripts and Modules").

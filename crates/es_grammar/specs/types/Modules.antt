@@ -2,7 +2,7 @@
 use Rattle.std.specs.Prelude.{ℕ, ◌+◌, Bool, true, false, not, ◌&&◌, ◌||◌}
 use Rattle.es_token.specs.declared.token.TokenKind.TheVariants as k
 use Rattle.grammar_theory.specs.declared.error.Lang.{Lang}
-use Rattle.grammar_theory.specs.declared.error.Lang.TheVariants as lang
+use Rattle.grammar_theory.specs.Languages.{typed}
 use Rattle.grammar_theory.specs.Key.{TokenTest, seen, has_kind, is, is_end, is_after_line}
 use Rattle.grammar_theory.specs.Productions.{as_str, as_name, as_there, by_lookahead, greedy, by_predicate, Predicate, Rhs, done, tok, punct, row, opt, many, alt, when_, where_, Production, make, choose, pick}
 use Rattle.es_grammar.specs.types.Words.{only, is_name, is_word, is_name_or_this, is_other}
@@ -10,11 +10,6 @@ use Rattle.es_grammar.specs.declared.types.rows.Row.{Row}
 use Rattle.es_grammar.specs.declared.types.rows.Row.TheVariants.{ClauseRow, NamedRow, ImportSpecifierRow, ExportSpecifierRow, AttributesRow, EntityRow}
 use Rattle.es_grammar.specs.declared.types.rows.NodeKind.{NodeKind}
 use Rattle.es_grammar.specs.declared.types.rows.NodeKind.TheVariants.{BareImport, FromImport, SourceImport, DeferImport, RequireImport, EntityImport, ExportedRequireImport, ExportedEntityImport, DefaultClause, DefaultAndClause, Namespace, NamedImports, RenamedImport, ImportedName, ExportAll, ExportNames, ExportNamespace, ExportedName, Attributes, Entity}
-
--- the language is TypeScript
-abbrev pub is_typescript : Lang → Bool
-is_typescript lang.Es = false
-is_typescript lang.Typescript = true
 
 -- before END: a `;`, or `}`, or the end, or a token on a new line
 unfoldable pub may_end : TokenTest
@@ -57,14 +52,14 @@ from_ended = punct k.FromWord (tok as_str (only k.Str) attributes_ended)
 -- in TypeScript `type` is a modifier of an import before `{`, `*` or a name, except `from` with a Str after it
 unfoldable pub opens_type_import : Lang → Predicate
 opens_type_import l K at =
-    is_typescript l && (is k.TypeWord (seen K at) && (is k.OpenBrace (seen K (at + 1)) || (is k.Star (seen K (at + 1))
+    typed l && (is k.TypeWord (seen K at) && (is k.OpenBrace (seen K (at + 1)) || (is k.Star (seen K (at + 1))
     || (has_kind is_name (seen K (at + 1))
     && not (is k.FromWord (seen K (at + 1)) && is k.Str (seen K (at + 2)))))))
 
 -- in a specifier it is one before any word or Str but `as`
 unfoldable pub opens_type_name : Lang → Predicate
 opens_type_name l K at =
-    is_typescript l && (is k.TypeWord (seen K at) && (is k.Str (seen K (at + 1))
+    typed l && (is k.TypeWord (seen K at) && (is k.Str (seen K (at + 1))
     || (has_kind is_word (seen K (at + 1)) && is_other k.AsWord (seen K (at + 1)))))
 
 -- 'type'?, and what stands behind it
@@ -122,7 +117,7 @@ behind_type false at = at
 -- a name before `=`, behind the modifier `type` too
 abbrev pub names_before_equal : Lang → Predicate
 names_before_equal l K at =
-    is_typescript l && (has_kind is_name (seen K (behind_type (opens_type_import l K at) at))
+    typed l && (has_kind is_name (seen K (behind_type (opens_type_import l K at) at))
     && is k.Equal (seen K (behind_type (opens_type_import l K at) at + 1)))
 
 -- `import` before such a name
@@ -196,7 +191,7 @@ export_specifier l =
 -- in TypeScript `type` behind `export` is the modifier before `{` or `*`
 unfoldable pub opens_type_export : Lang → Predicate
 opens_type_export l K at =
-    is_typescript l && (is k.TypeWord (seen K at) && (is k.OpenBrace (seen K (at + 1)) || is k.Star (seen K (at + 1))))
+    typed l && (is k.TypeWord (seen K at) && (is k.OpenBrace (seen K (at + 1)) || is k.Star (seen K (at + 1))))
 
 -- `export` before `*`, behind the modifier too
 unfoldable pub opens_all : Lang → Predicate
@@ -211,7 +206,7 @@ opens_exported_require l K at = opens_require l K (at + 1)
 
 -- in TypeScript `export as namespace`
 unfoldable pub opens_namespace : Lang → Predicate
-opens_namespace l K at = is_typescript l && is k.AsWord (seen K (at + 1))
+opens_namespace l K at = typed l && is k.AsWord (seen K (at + 1))
 
 -- Export: 'export' 'type'? '*' ('as' (Word | Str))? 'from' Str Attrs? END
 --         | 'export' 'type'? '{' XSpec% '}' ('from' Str Attrs?)? END | TS 'export' 'as' 'namespace' Name END
