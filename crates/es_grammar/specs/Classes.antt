@@ -17,7 +17,7 @@ use Rattle.es_grammar.specs.declared.rows.Row.{Row}
 use Rattle.es_grammar.specs.declared.rows.NodeKind.{NodeKind}
 use Rattle.es_grammar.specs.declared.rows.Row.TheVariants.{BlockRow, SignatureRow, KeyRow, AssignmentRow}
 use Rattle.es_grammar.specs.Rows.{async_in}
-use Rattle.es_grammar.specs.Embedding.{label_by, type_then, annotation_in, plain_form, typed_before, typed_in}
+use Rattle.es_grammar.specs.Embedding.{label_by, type_then, annotation_in, typed_before, typed_in}
 use Rattle.es_grammar.specs.Expressions.{star_in, body_in}
 use Rattle.es_grammar.specs.Functions.{is_typed_modifier, modifiers_in, mark_in, opens_any_method, typed_head_in}
 
@@ -52,7 +52,7 @@ static_in f = opt (by_predicate opens_static) (tok as_there (only k.StaticWord) 
 -- ('=' Assign)? END
 unfoldable pub value_in : Context → Rhs Row
 value_in c =
-    opt (greedy (is k.Equal)) (punct k.Equal (row (AssignmentRow c) done)) (plain_form ended)
+    opt (greedy (is k.Equal)) (punct k.Equal (row (AssignmentRow c) done)) ended
 
 -- Mod*, or 'static'?, and what stands behind them
 unfoldable pub head_in : Lang → Rhs Row → Rhs Row
@@ -119,7 +119,7 @@ modified_member l c =
 unfoldable pub index_member : Production Row NodeKind
 index_member =
     make IndexMember (modifiers_in opens_modifier (punct k.OpenBracket (tok as_name is_name (punct k.Colon
-    (type_then (punct k.CloseBracket (annotation_in (plain_form ended))))))))
+    (type_then (punct k.CloseBracket (annotation_in ended)))))))
 
 unfoldable pub any_member : Lang → Context → Production Row NodeKind
 any_member l c = typed_before l (pick (behind_all shows_index) index_member) (modified_member l c)

@@ -18,7 +18,7 @@ use Rattle.es_grammar.specs.declared.rows.Row.{Row}
 use Rattle.es_grammar.specs.declared.rows.NodeKind.{NodeKind}
 use Rattle.es_grammar.specs.declared.rows.Row.TheVariants.{ItemRow, EntityRow, VariablesRow, UsingRow, DeclaredRow, KeyRow, TypesRow}
 use Rattle.es_grammar.specs.Rows.{outside}
-use Rattle.es_grammar.specs.Embedding.{type_then, type_parameters_in, plain_form, typed_before}
+use Rattle.es_grammar.specs.Embedding.{type_then, type_parameters_in, typed_before}
 use Rattle.es_grammar.specs.Expressions.{function, async_function, class_, abstract_class, opens_abstract_class, references_in}
 use Rattle.es_grammar.specs.Functions.{default_in}
 use Rattle.es_grammar.specs.Statements.{block, keyword_statement, other_statement}
@@ -82,7 +82,7 @@ interface =
 unfoldable pub alias : Production Row NodeKind
 alias =
     make AliasDeclaration (punct k.TypeWord (tok as_name is_name (type_parameters_in (punct k.Equal (type_then
-    (plain_form ended))))))
+    ended)))))
 
 -- EnumDeclaration: 'const'? 'enum' Name '{' (Key ('=' Assign)?)% '}'
 unfoldable pub enum_ : Context → Production Row NodeKind
@@ -111,7 +111,7 @@ namespace c = make NamespaceDeclaration (tok as_kind is_namespace_word (row Enti
 unfoldable pub module_namespace : Context → Production Row NodeKind
 module_namespace c =
     make ModuleDeclaration (punct k.ModuleWord (tok as_str (only k.Str) (alt (is k.OpenBrace) (items_in c)
-    (when_ (is_other k.OpenBrace) (plain_form ended)) done)))
+    (when_ (is_other k.OpenBrace) ended) done)))
 
 -- 'global' '{' Item* '}'
 unfoldable pub global : Context → Production Row NodeKind
@@ -144,16 +144,16 @@ declares_variables K at = has_kind is_variable_word (seen K (at + 1)) && not (op
 -- TS 'declare' (Var END | Fn | Class | InterfaceDeclaration | AliasDeclaration | EnumDeclaration | Space)
 unfoldable pub declare : Context → Production Row NodeKind
 declare c =
-    pick declares_variables (make DeclaredVariables (punct k.DeclareWord (row (VariablesRow c) (plain_form ended))))
+    pick declares_variables (make DeclaredVariables (punct k.DeclareWord (row (VariablesRow c) ended)))
     (make Declared (punct k.DeclareWord (row (DeclaredRow c) done)))
 
 -- Var END | Using END | Fn | Class
 unfoldable pub plain_declaration : Lang → Context → Production Row NodeKind → Production Row NodeKind
 plain_declaration l c other =
-    choose (has_kind is_variable_word) (make VariableDeclaration (row (VariablesRow c) (plain_form ended)))
+    choose (has_kind is_variable_word) (make VariableDeclaration (row (VariablesRow c) ended))
     (choose (is k.FunctionWord) (function l true c)
     (choose (is k.ClassWord) (class_ l true c)
-    (pick opens_using (make UsingDeclaration (row (UsingRow c) (plain_form ended)))
+    (pick opens_using (make UsingDeclaration (row (UsingRow c) ended))
     (pick opens_async_function (async_function l true c) other))))
 
 -- the declarations of TypeScript alone, and in place of these another rule

@@ -1,22 +1,15 @@
 -- A table inside a table: a rule whose rows and alternatives are named by those of the outer table. So the types of
--- TypeScript, and what imports and exports bind, stand in the table of programs as they stand in their own.
+-- TypeScript are in the table of programs as they are in their own.
 use Rattle.std.specs.Prelude.{leb, Bool, true, false, ◌&&◌, ◌||◌, List, if◌then◌else◌}
 use Rattle.es_token.specs.declared.token.TokenKind.TheVariants as k
 use Rattle.grammar_theory.specs.declared.error.Lang.{Lang}
 use Rattle.grammar_theory.specs.Languages.{typed}
 use Rattle.grammar_theory.specs.Key.{Key, TokenTest, seen, is}
-use Rattle.grammar_theory.specs.Productions.{as_str, as_name, as_there, by_lookahead, greedy, by_predicate, Predicate, Rhs, done, tok, punct, row, opt, many, alt, when_, where_, Production, refuse, make, choose, as_, pick, wrap}
+use Rattle.grammar_theory.specs.Productions.{greedy, Predicate, Rhs, done, tok, punct, row, opt, many, alt, when_, where_, Production, refuse, make, choose, as_, pick, wrap}
 use Rattle.grammar_theory.specs.Plain.{Plain, plain, none_leans, tall}
 use Rattle.grammar_theory.specs.Fits.{most_nodes}
 use Rattle.grammar_theory.specs.Reader.{Out, nothing, gives, read_row}
-use Rattle.es_grammar.specs.types.Words.{only, is_name, is_word, is_other}
-use Rattle.es_grammar.specs.types.Modules.{opens_type_import}
 use Rattle.es_grammar.specs.types.TypeNames.{begins_angle}
-use Rattle.es_grammar.specs.declared.types.rows.Row as modules
-use Rattle.es_grammar.specs.declared.types.rows.Row.TheVariants as rows
-use Rattle.es_grammar.specs.declared.types.rows.NodeKind as labels
-use Rattle.es_grammar.specs.declared.types.rows.NodeKind.TheVariants as named
-use Rattle.es_grammar.specs.declared.rows.NodeKind.TheVariants as here
 use Rattle.es_grammar.specs.types.TypeRows as table
 use Rattle.es_grammar.specs.declared.types.rows.TypeRow.{TypeRow}
 use Rattle.es_grammar.specs.declared.types.rows.TypeRow.TheVariants as types
@@ -24,7 +17,7 @@ use Rattle.es_grammar.specs.TypeNames.{label_name}
 use Rattle.es_grammar.specs.types.TypeTable.{type_rule}
 use Rattle.es_grammar.specs.declared.rows.Row.{Row}
 use Rattle.es_grammar.specs.declared.rows.NodeKind.{NodeKind}
-use Rattle.es_grammar.specs.declared.rows.Row.TheVariants.{ClauseRow, NamedRow, ImportSpecifierRow, ExportSpecifierRow, AttributesRow, EntityRow, TypesRow}
+use Rattle.es_grammar.specs.declared.rows.Row.TheVariants.{TypesRow}
 
 -- ---- mapped rules
 
@@ -48,67 +41,6 @@ mapped_rule f w (choose t a b) = choose t (mapped_rule f w a) (mapped_rule f w b
 mapped_rule f w (as_ l a) = as_ (w l) (mapped_rule f w a)
 mapped_rule f w (pick g a b) = pick g (mapped_rule f w a) (mapped_rule f w b)
 mapped_rule f w (wrap l a c g) = wrap (w l) (mapped_rule f w a) c (mapped_form f g)
-
--- ---- rows of imports and exports
-
--- a row of what imports and exports bind, in this table; the language is that of the table
-abbrev pub row_of : modules.Row → Row
-row_of (rows.ClauseRow l) = ClauseRow
-row_of (rows.NamedRow l) = NamedRow
-row_of (rows.ImportSpecifierRow l) = ImportSpecifierRow
-row_of (rows.ExportSpecifierRow l) = ExportSpecifierRow
-row_of rows.AttributesRow = AttributesRow
-row_of rows.EntityRow = EntityRow
-
--- an alternative of imports and of exports of names, in this table
-abbrev pub label_of : labels.NodeKind → NodeKind
-label_of named.BareImport = here.BareImport
-label_of named.FromImport = here.FromImport
-label_of named.SourceImport = here.SourceImport
-label_of named.DeferImport = here.DeferImport
-label_of named.RequireImport = here.RequireImport
-label_of named.EntityImport = here.EntityImport
-label_of named.ExportedRequireImport = here.ExportedRequireImport
-label_of named.ExportedEntityImport = here.ExportedEntityImport
-label_of named.DefaultClause = here.DefaultClause
-label_of named.DefaultAndClause = here.DefaultAndClause
-label_of named.Namespace = here.Namespace
-label_of named.NamedImports = here.NamedImports
-label_of named.RenamedImport = here.RenamedImport
-label_of named.ImportedName = here.ImportedName
-label_of named.ExportAll = here.ExportAll
-label_of named.ExportNames = here.ExportNames
-label_of named.ExportNamespace = here.ExportNamespace
-label_of named.ExportedName = here.ExportedName
-label_of named.Attributes = here.Attributes
-label_of named.Entity = here.Entity
-
--- such a rule, or a part of one, in this table
-abbrev pub plain_rule : Production modules.Row labels.NodeKind → Production Row NodeKind
-plain_rule a = mapped_rule row_of label_of a
-
-abbrev pub plain_form : Rhs modules.Row → Rhs Row
-plain_form f = mapped_form row_of f
-
--- ---- parts of imports and exports, with rows of this table after them
-
--- a word or a string literal, and what stands behind it
-unfoldable pub word_or_str_in : Rhs Row → Rhs Row
-word_or_str_in f = alt (is k.Str) (tok as_str (only k.Str) done) (tok as_name is_word done) f
-
--- X%: a comma list, possibly empty, with an optional last comma, before `}`
-unfoldable pub names_in : Row → Rhs Row → Rhs Row
-names_in r f =
-    many (by_lookahead (is_other k.CloseBrace)) (row r (opt (greedy (is_other k.CloseBrace)) (punct k.Comma done) done)) f
-
--- 'type'?, and what stands behind it
-unfoldable pub type_word_in : Predicate → Rhs Row → Rhs Row
-type_word_in g f = opt (by_predicate g) (tok as_there (only k.TypeWord) done) f
-
--- 'import' 'type'? Name '=', and what stands behind it
-unfoldable pub equals_in : Lang → Rhs Row → Rhs Row
-equals_in l f =
-    punct k.ImportWord (type_word_in (opens_type_import l) (tok as_name is_name (punct k.Equal f)))
 
 -- ---- rows of the table of types
 

@@ -20,7 +20,7 @@ use Rattle.es_grammar.specs.declared.rows.Row.{Row}
 use Rattle.es_grammar.specs.declared.rows.NodeKind.{NodeKind}
 use Rattle.es_grammar.specs.declared.rows.Row.TheVariants.{BlockRow, SignatureRow, ParametersRow, PatternRow, PropertyRow, ExpressionRow, AssignmentRow, AndRow, BitOrRow, BitXorRow, BitAndRow, EqualityRow, RelationRow, RightRow, ShiftRow, SumRow, ProductRow, PowerRow, UnaryRow, ChainRow, CalleeRow, PostRow, MemberPostRow, ArgumentsRow, ElementRow, TemplateRow, MemberRow, TypesRow}
 use Rattle.es_grammar.specs.Rows.{outside, async_in, async_here, without_colon}
-use Rattle.es_grammar.specs.Embedding.{label_by, typed_in, type_then, plain_form, type_parameters_in, type_arguments_in, reads_before, begins_call, opens_call_arguments, opens_heritage_arguments, typed_before}
+use Rattle.es_grammar.specs.Embedding.{label_by, typed_in, type_then, type_parameters_in, type_arguments_in, reads_before, begins_call, opens_call_arguments, opens_heritage_arguments, typed_before}
 
 -- `as` or `satisfies`, on the line of the token before it
 unfoldable pub is_assertion_word : TokenKind → Bool
@@ -166,7 +166,7 @@ class_name_in l false f =
 -- Block | TS END: a function's block is taken where its `{` is there
 unfoldable pub body_in : Lang → Context → Rhs Row
 body_in l c =
-    if typed l then alt (is k.OpenBrace) (row (BlockRow c) done) (when_ (is_other k.OpenBrace) (plain_form ended)) done
+    if typed l then alt (is k.OpenBrace) (row (BlockRow c) done) (when_ (is_other k.OpenBrace) ended) done
     else row (BlockRow c) done
 
 -- 'function' '*'? Name? Sig (Block | TS END)

@@ -16,7 +16,7 @@ use Rattle.es_grammar.specs.declared.rows.Row.{Row}
 use Rattle.es_grammar.specs.declared.rows.NodeKind.{NodeKind}
 use Rattle.es_grammar.specs.declared.rows.Row.TheVariants.{ItemRow, StatementRow, DeclarationRow, DeclaredRow, FunctionRow, ClassRow, ExpressionRow, AssignmentRow}
 use Rattle.es_grammar.specs.Rows.{in_module, in_script}
-use Rattle.es_grammar.specs.Embedding.{plain_rule, plain_form, typed_before}
+use Rattle.es_grammar.specs.Embedding.{typed_before}
 use Rattle.es_grammar.specs.Expressions.{opens_abstract_class}
 use Rattle.es_grammar.specs.Declarations.{opens_interface, opens_alias, opens_enum, opens_namespace, opens_module, opens_global, opens_declare, statement}
 
@@ -32,7 +32,7 @@ opens_default_interface K at = opens_interface K (at + 2)
 unfoldable pub default_expression : Context → Production Row NodeKind
 default_expression c =
     make ExportDefaultExpression (punct k.ExportWord (punct k.DefaultWord (row
-    (AssignmentRow c) (plain_form ended))))
+    (AssignmentRow c) ended)))
 
 -- TS 'export' 'default' Interface
 unfoldable pub default_interface : Context → Production Row NodeKind
@@ -65,8 +65,8 @@ opens_export_assignment K at = is k.Equal (seen K (at + 1))
 unfoldable pub export_names : Lang → Context → Production Row NodeKind
 export_names l c =
     typed_before l (pick opens_export_assignment
-    (make ExportAssignment (punct k.ExportWord (punct k.Equal (row (ExpressionRow c) (plain_form ended))))))
-    (plain_rule (modules.export_ l))
+    (make ExportAssignment (punct k.ExportWord (punct k.Equal (row (ExpressionRow c) ended)))))
+    (modules.export_ l)
 
 -- Export: 'export' Decl | 'export' 'default' (Fn | Class | TS Interface | Assign END), and of names
 unfoldable pub export_item : Lang → Context → Production Row NodeKind
@@ -79,7 +79,7 @@ export_item l c =
 -- Item: Import | Export | Stmt
 unfoldable pub item : Lang → Context → Production Row NodeKind
 item l c =
-    pick items.opens_import (plain_rule (modules.import_ l))
+    pick items.opens_import (modules.import_ l)
     (choose (is k.ExportWord) (export_item l c) (statement l c))
 
 -- Shebang?, and what stands behind it

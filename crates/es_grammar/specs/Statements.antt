@@ -15,7 +15,7 @@ use Rattle.es_grammar.specs.declared.rows.Row.{Row}
 use Rattle.es_grammar.specs.declared.rows.NodeKind.{NodeKind}
 use Rattle.es_grammar.specs.declared.rows.Row.TheVariants.{StatementRow, BlockRow, VariablesRow, DeclaratorRow, UsingRow, HeadRow, HeadPatternRow, PatternRow, ExpressionRow, AssignmentRow}
 use Rattle.es_grammar.specs.Rows.{outside, in_head, without_colon}
-use Rattle.es_grammar.specs.Embedding.{label_by, typed_in, annotation_in, plain_form}
+use Rattle.es_grammar.specs.Embedding.{label_by, typed_in, annotation_in}
 use Rattle.es_grammar.specs.Expressions.{begins_value, may_await, opens_non_null}
 use Rattle.es_grammar.specs.Functions.{target, pattern}
 
@@ -140,7 +140,7 @@ begins_value_here l x = is_near x && begins_value l x
 unfoldable pub return_ : Lang → Context → Production Row NodeKind
 return_ l c =
     make ReturnStatement (punct k.ReturnWord (alt (begins_value_here l) (when_ is_near (row
-    (ExpressionRow c) (plain_form ended))) (plain_form ended) done))
+    (ExpressionRow c) ended)) ended done))
 
 -- ('case' Expr | 'default') ':' Stmt*
 unfoldable pub case_in : Lang → Context → Rhs Row
@@ -169,7 +169,7 @@ try_ l c =
 -- Expr END
 unfoldable pub expression_statement : Context → Production Row NodeKind
 expression_statement c =
-    make ExpressionStatement (when_ begins_no_other (row (ExpressionRow c) (plain_form ended)))
+    make ExpressionStatement (when_ begins_no_other (row (ExpressionRow c) ended))
 
 -- the statements that begin with a keyword of their own
 unfoldable pub keyword_statement : Lang → Context → Production Row NodeKind → Production Row NodeKind
@@ -183,14 +183,14 @@ keyword_statement l c other =
     (choose (is k.DoWord)
     (make DoStatement (punct k.DoWord (row (StatementRow c) (punct k.WhileWord (condition_in c
     (opt (greedy (is k.Semicolon)) (punct k.Semicolon done) done))))))
-    (choose (is k.ContinueWord) (make ContinueStatement (punct k.ContinueWord (plain_form label_ended)))
-    (choose (is k.BreakWord) (make BreakStatement (punct k.BreakWord (plain_form label_ended)))
+    (choose (is k.ContinueWord) (make ContinueStatement (punct k.ContinueWord label_ended))
+    (choose (is k.BreakWord) (make BreakStatement (punct k.BreakWord label_ended))
     (choose (is k.ReturnWord) (return_ l c)
     (choose (is k.ThrowWord) (make ThrowStatement (punct k.ThrowWord (when_ is_near (row
-    (ExpressionRow c) (plain_form ended)))))
+    (ExpressionRow c) ended))))
     (choose (is k.SwitchWord) (switch_ l c)
     (choose (is k.TryWord) (try_ l c)
-    (choose (is k.DebuggerWord) (make DebuggerStatement (punct k.DebuggerWord (plain_form ended)))
+    (choose (is k.DebuggerWord) (make DebuggerStatement (punct k.DebuggerWord ended))
     (choose (is k.WithWord)
     (make WithStatement (punct k.WithWord (where_ (is_script c) (condition_in c (row
     (StatementRow c) done))))) other)))))))))))

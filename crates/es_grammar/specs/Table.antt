@@ -6,7 +6,7 @@ use Rattle.es_grammar.specs.types.TypeTable.{type_rule}
 use Rattle.es_grammar.specs.declared.rows.Row.{Row}
 use Rattle.es_grammar.specs.declared.rows.NodeKind.{NodeKind}
 use Rattle.es_grammar.specs.declared.rows.Row.TheVariants.{ModuleRow, ScriptRow, ItemRow, ClauseRow, NamedRow, ImportSpecifierRow, ExportSpecifierRow, AttributesRow, EntityRow, StatementRow, BlockRow, DeclarationRow, DeclaredRow, VariablesRow, DeclaratorRow, UsingRow, HeadRow, HeadPatternRow, FunctionRow, ClassRow, SignatureRow, ParametersRow, ParameterRow, PatternRow, InnerPatternRow, PatternElementRow, PatternPropertyRow, MemberRow, PropertyRow, KeyRow, ExpressionRow, AssignmentRow, AndRow, BitOrRow, BitXorRow, BitAndRow, EqualityRow, RelationRow, RightRow, ShiftRow, SumRow, ProductRow, PowerRow, UnaryRow, ChainRow, CalleeRow, PostRow, MemberPostRow, ArgumentsRow, ElementRow, TemplateRow, TypesRow}
-use Rattle.es_grammar.specs.Embedding.{plain_rule, types_rule}
+use Rattle.es_grammar.specs.Embedding.{types_rule}
 use Rattle.es_grammar.specs.Expressions.{any_function, any_class, template, arguments, post, member_post, chain, callee, unary, power, product, sum, shift, right_operand, relation, equality, bit_and, bit_xor, bit_or, and_, assignment, expression, element}
 use Rattle.es_grammar.specs.Functions.{pattern, inner_pattern, pattern_element, pattern_property, parameters, parameter, signature, key, property}
 use Rattle.es_grammar.specs.Classes.{member}
@@ -18,12 +18,12 @@ unfoldable pub rule : Lang → Row → Production Row NodeKind
 rule l ModuleRow = module_
 rule l ScriptRow = script
 rule l (ItemRow c) = item l c
-rule l ClauseRow = plain_rule (modules.clause l)
-rule l NamedRow = plain_rule (modules.named l)
-rule l ImportSpecifierRow = plain_rule (modules.import_specifier l)
-rule l ExportSpecifierRow = plain_rule (modules.export_specifier l)
-rule l AttributesRow = plain_rule modules.attributes
-rule l EntityRow = plain_rule modules.entity
+rule l ClauseRow = modules.clause
+rule l NamedRow = modules.named
+rule l ImportSpecifierRow = modules.import_specifier l
+rule l ExportSpecifierRow = modules.export_specifier l
+rule l AttributesRow = modules.attributes
+rule l EntityRow = modules.entity
 rule l (StatementRow c) = statement l c
 rule l (BlockRow c) = block c
 rule l (DeclarationRow c) = declaration l c refuse

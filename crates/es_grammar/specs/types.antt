@@ -2,7 +2,7 @@
 pub mod Words
 -- the parts of a tree stand in order
 pub mod Order
--- imports and exports of names: their rules; their rows are in src/types/rows.rt
+-- imports and exports of names: their rules
 pub mod Modules
 -- predicates of programs, by their areas
 pub mod Expressions

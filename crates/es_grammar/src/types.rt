@@ -1,5 +1,5 @@
-//! The types of TypeScript, which hold no expression and so are a table of their own, and the rows of what imports and
-//! exports bind. They are written in the language of `grammar_theory` (`specs/Productions.antt` there).
+//! The types of TypeScript, which hold no expression and so are a table of their own. They are written in the language of
+//! `grammar_theory` (`specs/Productions.antt` there).
 //!
 //! - `specs/types/TypeTable.antt`: the table of types; its areas are `specs/types/Types.antt`, `Members.antt`,
 //!   `Parameters.antt` and `TypeNames.antt`.
@@ -14,4 +14,4 @@
 mod rows;
 
 pub use crate::rows::Context;
-pub use rows::{NodeKind, Row, TypeRow};
+pub use rows::TypeRow;

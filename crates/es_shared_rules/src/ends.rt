@@ -1,7 +1,6 @@
 //! What a statement ends with, and what `using` begins with.
 
 ghost use Rattle.es_grammar.specs.types.Modules.{ended};
-ghost use Rattle.es_grammar.specs.Embedding.{plain_form};
 ghost use Rattle.es_grammar.specs.Statements.{using_in};
 
 use crate::predicates::Lookahead::Is;
@@ -18,7 +17,7 @@ use grammar_theory::SyntaxError;
 pub struct Ended;
 
 impl ReadsRhs<Row> for Ended {
-    ghost form = { λ _. plain_form ended };
+    ghost form = { λ _. ended };
 
     #[tactic(auto, unfolding(es_grammar::specs::types::Modules::ended))]
     fn read<T: Rows<Row>>(

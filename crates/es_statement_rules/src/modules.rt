@@ -1,8 +1,7 @@
 //! Imports, and exports of names.
 
-ghost use Rattle.es_grammar.specs.Embedding.{plain_form, plain_rule, word_or_str_in, names_in, type_word_in, equals_in};
 ghost use Rattle.es_shared_rules.specs.predicates.Named.{predicate_of};
-ghost use Rattle.es_grammar.specs.types.Modules.{attributes, attributes_ended, from_ended, import_specifier, named, clause, entity, required, source_import, defer_import, import_, export_specifier, export_};
+ghost use Rattle.es_grammar.specs.types.Modules.{attributes, attributes_ended, from_ended, import_specifier, named, clause, entity, required, source_import, defer_import, import_, export_specifier, export_, word_or_str_in, names_in, type_word_in, equals_in};
 
 use es_grammar::{NodeKind, Row};
 use es_rules::{
@@ -22,7 +21,7 @@ pub struct WordOrStrIn<N>(pub N);
 impl<N: ReadsRhs<Row> + Copy> ReadsRhs<Row> for WordOrStrIn<N> {
     ghost form = { λ s. word_or_str_in (N.form s.0) };
 
-    #[tactic(auto, unfolding(es_grammar::specs::Embedding::word_or_str_in))]
+    #[tactic(auto, unfolding(es_grammar::specs::types::Modules::word_or_str_in))]
     fn read<T: Rows<Row>>(
         &self,
         grammar: &Grammar<'_, T>,
@@ -45,7 +44,7 @@ pub struct NamesIn<N>(pub Row, pub N);
 impl<N: ReadsRhs<Row> + Copy> ReadsRhs<Row> for NamesIn<N> {
     ghost form = { λ s. names_in s.0 (N.form s.1) };
 
-    #[tactic(auto, unfolding(es_grammar::specs::Embedding::names_in))]
+    #[tactic(auto, unfolding(es_grammar::specs::types::Modules::names_in))]
     fn read<T: Rows<Row>>(
         &self,
         grammar: &Grammar<'_, T>,
@@ -72,9 +71,9 @@ impl<N: ReadsRhs<Row> + Copy> ReadsRhs<Row> for NamesIn<N> {
 pub struct Attributes;
 
 impl ReadsProduction<Row> for Attributes {
-    ghost rule = { λ _. plain_rule attributes };
+    ghost rule = { λ _. attributes };
 
-    #[tactic(auto, unfolding(es_grammar::specs::types::Modules::attributes, es_grammar::specs::types::Modules::word_or_str_in, es_grammar::specs::Embedding::word_or_str_in))]
+    #[tactic(auto, unfolding(es_grammar::specs::types::Modules::attributes, es_grammar::specs::types::Modules::word_or_str_in))]
     fn read<T: Rows<Row>>(
         &self,
         grammar: &Grammar<'_, T>,
@@ -114,7 +113,7 @@ impl ReadsProduction<Row> for Attributes {
 pub struct AttributesEnded;
 
 impl ReadsRhs<Row> for AttributesEnded {
-    ghost form = { λ _. plain_form attributes_ended };
+    ghost form = { λ _. attributes_ended };
 
     #[tactic(auto, unfolding(es_grammar::specs::types::Modules::attributes_ended))]
     fn read<T: Rows<Row>>(
@@ -136,7 +135,7 @@ impl ReadsRhs<Row> for AttributesEnded {
 pub struct FromEnded;
 
 impl ReadsRhs<Row> for FromEnded {
-    ghost form = { λ _. plain_form from_ended };
+    ghost form = { λ _. from_ended };
 
     #[tactic(auto, unfolding(es_grammar::specs::types::Modules::from_ended))]
     fn read<T: Rows<Row>>(
@@ -159,7 +158,7 @@ pub struct TypeWordIn<N>(pub Predicate, pub N);
 impl<N: ReadsRhs<Row> + Copy> ReadsRhs<Row> for TypeWordIn<N> {
     ghost form = { λ s. type_word_in (predicate_of s.0) (N.form s.1) };
 
-    #[tactic(auto, unfolding(es_grammar::specs::Embedding::type_word_in))]
+    #[tactic(auto, unfolding(es_grammar::specs::types::Modules::type_word_in))]
     fn read<T: Rows<Row>>(
         &self,
         grammar: &Grammar<'_, T>,
@@ -179,9 +178,9 @@ impl<N: ReadsRhs<Row> + Copy> ReadsRhs<Row> for TypeWordIn<N> {
 pub struct ImportSpecifier(pub Lang);
 
 impl ReadsProduction<Row> for ImportSpecifier {
-    ghost rule = { λ s. plain_rule (import_specifier s.0) };
+    ghost rule = { λ s. import_specifier s.0 };
 
-    #[tactic(auto, unfolding(es_grammar::specs::types::Modules::import_specifier, es_grammar::specs::types::Modules::type_word_in, es_grammar::specs::Embedding::type_word_in, es_grammar::specs::types::Modules::word_or_str_in, es_grammar::specs::Embedding::word_or_str_in))]
+    #[tactic(auto, unfolding(es_grammar::specs::types::Modules::import_specifier, es_grammar::specs::types::Modules::type_word_in, es_grammar::specs::types::Modules::word_or_str_in))]
     fn read<T: Rows<Row>>(
         &self,
         grammar: &Grammar<'_, T>,
@@ -219,9 +218,9 @@ impl ReadsProduction<Row> for ImportSpecifier {
 pub struct Named(pub Lang);
 
 impl ReadsProduction<Row> for Named {
-    ghost rule = { λ s. plain_rule (named s.0) };
+    ghost rule = { λ s. named };
 
-    #[tactic(auto, unfolding(es_grammar::specs::types::Modules::named, es_grammar::specs::types::Modules::names_in, es_grammar::specs::Embedding::names_in))]
+    #[tactic(auto, unfolding(es_grammar::specs::types::Modules::named, es_grammar::specs::types::Modules::names_in))]
     fn read<T: Rows<Row>>(
         &self,
         grammar: &Grammar<'_, T>,
@@ -253,7 +252,7 @@ impl ReadsProduction<Row> for Named {
 pub struct Clause(pub Lang);
 
 impl ReadsProduction<Row> for Clause {
-    ghost rule = { λ s. plain_rule (clause s.0) };
+    ghost rule = { λ s. clause };
 
     #[tactic(auto, unfolding(es_grammar::specs::types::Modules::clause))]
     fn read<T: Rows<Row>>(
@@ -289,7 +288,7 @@ impl ReadsProduction<Row> for Clause {
 pub struct Entity;
 
 impl ReadsProduction<Row> for Entity {
-    ghost rule = { λ _. plain_rule entity };
+    ghost rule = { λ _. entity };
 
     #[tactic(auto, unfolding(es_grammar::specs::types::Modules::entity))]
     fn read<T: Rows<Row>>(
@@ -320,7 +319,7 @@ pub struct EqualsIn<N>(pub Lang, pub N);
 impl<N: ReadsRhs<Row> + Copy> ReadsRhs<Row> for EqualsIn<N> {
     ghost form = { λ s. equals_in s.0 (N.form s.1) };
 
-    #[tactic(auto, unfolding(es_grammar::specs::Embedding::equals_in))]
+    #[tactic(auto, unfolding(es_grammar::specs::types::Modules::equals_in))]
     fn read<T: Rows<Row>>(
         &self,
         grammar: &Grammar<'_, T>,
@@ -342,7 +341,7 @@ impl<N: ReadsRhs<Row> + Copy> ReadsRhs<Row> for EqualsIn<N> {
 pub struct Required;
 
 impl ReadsRhs<Row> for Required {
-    ghost form = { λ _. plain_form required };
+    ghost form = { λ _. required };
 
     #[tactic(auto, unfolding(es_grammar::specs::types::Modules::required))]
     fn read<T: Rows<Row>>(
@@ -370,7 +369,7 @@ impl ReadsRhs<Row> for Required {
 pub struct SourceImport;
 
 impl ReadsProduction<Row> for SourceImport {
-    ghost rule = { λ _. plain_rule source_import };
+    ghost rule = { λ _. source_import };
 
     #[tactic(auto, unfolding(es_grammar::specs::types::Modules::source_import))]
     fn read<T: Rows<Row>>(
@@ -397,7 +396,7 @@ impl ReadsProduction<Row> for SourceImport {
 pub struct DeferImport;
 
 impl ReadsProduction<Row> for DeferImport {
-    ghost rule = { λ _. plain_rule defer_import };
+    ghost rule = { λ _. defer_import };
 
     #[tactic(auto, unfolding(es_grammar::specs::types::Modules::defer_import))]
     fn read<T: Rows<Row>>(
@@ -430,9 +429,9 @@ impl ReadsProduction<Row> for DeferImport {
 pub struct Import(pub Lang);
 
 impl ReadsProduction<Row> for Import {
-    ghost rule = { λ s. plain_rule (import_ s.0) };
+    ghost rule = { λ s. import_ s.0 };
 
-    #[tactic(auto, unfolding(es_grammar::specs::types::Modules::import_, es_grammar::specs::types::Modules::equals_in, es_grammar::specs::Embedding::equals_in, es_grammar::specs::types::Modules::type_word_in, es_grammar::specs::Embedding::type_word_in))]
+    #[tactic(auto, unfolding(es_grammar::specs::types::Modules::import_, es_grammar::specs::types::Modules::equals_in, es_grammar::specs::types::Modules::type_word_in))]
     fn read<T: Rows<Row>>(
         &self,
         grammar: &Grammar<'_, T>,
@@ -486,9 +485,9 @@ impl ReadsProduction<Row> for Import {
 pub struct ExportSpecifier(pub Lang);
 
 impl ReadsProduction<Row> for ExportSpecifier {
-    ghost rule = { λ s. plain_rule (export_specifier s.0) };
+    ghost rule = { λ s. export_specifier s.0 };
 
-    #[tactic(auto, unfolding(es_grammar::specs::types::Modules::export_specifier, es_grammar::specs::types::Modules::type_word_in, es_grammar::specs::Embedding::type_word_in, es_grammar::specs::types::Modules::word_or_str_in, es_grammar::specs::Embedding::word_or_str_in))]
+    #[tactic(auto, unfolding(es_grammar::specs::types::Modules::export_specifier, es_grammar::specs::types::Modules::type_word_in, es_grammar::specs::types::Modules::word_or_str_in))]
     fn read<T: Rows<Row>>(
         &self,
         grammar: &Grammar<'_, T>,
@@ -517,9 +516,9 @@ impl ReadsProduction<Row> for ExportSpecifier {
 pub struct Export(pub Lang);
 
 impl ReadsProduction<Row> for Export {
-    ghost rule = { λ s. plain_rule (export_ s.0) };
+    ghost rule = { λ s. export_ s.0 };
 
-    #[tactic(auto, unfolding(es_grammar::specs::types::Modules::export_, es_grammar::specs::types::Modules::equals_in, es_grammar::specs::Embedding::equals_in, es_grammar::specs::types::Modules::type_word_in, es_grammar::specs::Embedding::type_word_in, es_grammar::specs::types::Modules::word_or_str_in, es_grammar::specs::Embedding::word_or_str_in, es_grammar::specs::types::Modules::names_in, es_grammar::specs::Embedding::names_in))]
+    #[tactic(auto, unfolding(es_grammar::specs::types::Modules::export_, es_grammar::specs::types::Modules::equals_in, es_grammar::specs::types::Modules::type_word_in, es_grammar::specs::types::Modules::word_or_str_in, es_grammar::specs::types::Modules::names_in))]
     fn read<T: Rows<Row>>(
         &self,
         grammar: &Grammar<'_, T>,

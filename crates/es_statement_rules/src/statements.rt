@@ -1,6 +1,5 @@
 //! Statements.
 
-ghost use Rattle.es_grammar.specs.Embedding.{plain_form};
 ghost use Rattle.es_grammar.specs.Statements.{return_, case_in, switch_, finally_in, try_, expression_statement, keyword_statement, other_statement};
 ghost use Rattle.es_grammar.specs.Declarations.{statement};
 ghost use Rattle.es_grammar.specs.types.Statements.{label_ended};
@@ -23,7 +22,7 @@ use grammar_theory::{Lang, SyntaxError};
 pub struct LabelEnded;
 
 impl ReadsRhs<Row> for LabelEnded {
-    ghost form = { λ _. plain_form label_ended };
+    ghost form = { λ _. label_ended };
 
     #[tactic(auto, unfolding(es_grammar::specs::types::Statements::label_ended))]
     fn read<T: Rows<Row>>(

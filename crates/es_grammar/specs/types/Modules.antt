@@ -6,10 +6,10 @@ use Rattle.grammar_theory.specs.Languages.{typed}
 use Rattle.grammar_theory.specs.Key.{TokenTest, seen, has_kind, is, is_end, is_after_line}
 use Rattle.grammar_theory.specs.Productions.{as_str, as_name, as_there, by_lookahead, greedy, by_predicate, Predicate, Rhs, done, tok, punct, row, opt, many, alt, when_, where_, Production, make, choose, pick}
 use Rattle.es_grammar.specs.types.Words.{only, is_name, is_word, is_name_or_this, is_other}
-use Rattle.es_grammar.specs.declared.types.rows.Row.{Row}
-use Rattle.es_grammar.specs.declared.types.rows.Row.TheVariants.{ClauseRow, NamedRow, ImportSpecifierRow, ExportSpecifierRow, AttributesRow, EntityRow}
-use Rattle.es_grammar.specs.declared.types.rows.NodeKind.{NodeKind}
-use Rattle.es_grammar.specs.declared.types.rows.NodeKind.TheVariants.{BareImport, FromImport, SourceImport, DeferImport, RequireImport, EntityImport, ExportedRequireImport, ExportedEntityImport, DefaultClause, DefaultAndClause, Namespace, NamedImports, RenamedImport, ImportedName, ExportAll, ExportNames, ExportNamespace, ExportedName, Attributes, Entity}
+use Rattle.es_grammar.specs.declared.rows.Row.{Row}
+use Rattle.es_grammar.specs.declared.rows.Row.TheVariants.{ClauseRow, NamedRow, ImportSpecifierRow, ExportSpecifierRow, AttributesRow, EntityRow}
+use Rattle.es_grammar.specs.declared.rows.NodeKind.{NodeKind}
+use Rattle.es_grammar.specs.declared.rows.NodeKind.TheVariants.{BareImport, FromImport, SourceImport, DeferImport, RequireImport, EntityImport, ExportedRequireImport, ExportedEntityImport, DefaultClause, DefaultAndClause, Namespace, NamedImports, RenamedImport, ImportedName, ExportAll, ExportNames, ExportNamespace, ExportedName, Attributes, Entity}
 
 -- before END: a `;`, or `}`, or the end, or a token on a new line
 unfoldable pub may_end : TokenTest
@@ -86,21 +86,21 @@ import_specifier l =
     (make ImportedName (type_word_in (opens_type_name l) (tok as_name is_name done)))
 
 -- Named: '*' 'as' Name | '{' Spec% '}'
-unfoldable pub named : Lang → Production Row NodeKind
-named l =
+unfoldable pub named : Production Row NodeKind
+named =
     choose (is k.Star) (make Namespace (punct k.Star (punct k.AsWord (tok as_name is_name done))))
-    (make NamedImports (punct k.OpenBrace (names_in (ImportSpecifierRow l) (punct k.CloseBrace done))))
+    (make NamedImports (punct k.OpenBrace (names_in ImportSpecifierRow (punct k.CloseBrace done))))
 
 -- a name before ','
 unfoldable pub has_comma : Predicate
 has_comma K at = is k.Comma (seen K (at + 1))
 
 -- Clause: Name | Name ',' Named | Named
-unfoldable pub clause : Lang → Production Row NodeKind
-clause l =
+unfoldable pub clause : Production Row NodeKind
+clause =
     choose (has_kind is_name)
-    (pick has_comma (make DefaultAndClause (tok as_name is_name (punct k.Comma (row (NamedRow l) done))))
-    (make DefaultClause (tok as_name is_name done))) (named l)
+    (pick has_comma (make DefaultAndClause (tok as_name is_name (punct k.Comma (row NamedRow done))))
+    (make DefaultClause (tok as_name is_name done))) named
 
 -- ---- imports
 
@@ -178,7 +178,7 @@ import_ l =
     (make BareImport (punct k.ImportWord (tok as_str (only k.Str) attributes_ended)))
     (pick opens_source_import source_import
     (pick opens_defer_import defer_import
-    (make FromImport (punct k.ImportWord (type_word_in (opens_type_import l) (row (ClauseRow l) from_ended)))))))
+    (make FromImport (punct k.ImportWord (type_word_in (opens_type_import l) (row ClauseRow from_ended)))))))
 
 -- ---- exports
 
@@ -222,6 +222,6 @@ export_ l =
     (make ExportAll (punct k.ExportWord (type_word_in (opens_type_export l) (punct k.Star
     (opt (greedy (is k.AsWord)) (punct k.AsWord (word_or_str_in done)) from_ended)))))
     (make ExportNames (punct k.ExportWord (type_word_in (opens_type_export l) (punct k.OpenBrace
-    (names_in (ExportSpecifierRow l) (punct k.CloseBrace
+    (names_in ExportSpecifierRow (punct k.CloseBrace
     (opt (greedy (is k.FromWord)) (punct k.FromWord (tok as_str (only k.Str)
     (opt (greedy (is k.WithWord)) (row AttributesRow done) done))) ended)))))))))

@@ -6,7 +6,7 @@ use Rattle.grammar_theory.specs.Key.{Key, TokenTest, seen, same_kind, has_kind, 
 use Rattle.grammar_theory.specs.Productions.{as_name, greedy, Predicate, Rhs, done, tok, opt, when_}
 use Rattle.es_grammar.specs.types.Words.{is_name, is_near, is_other, partner_of, closes_before}
 use Rattle.es_grammar.specs.declared.rows.Context.{Context}
-use Rattle.es_grammar.specs.declared.types.rows.Row.{Row}
+use Rattle.es_grammar.specs.declared.rows.Row.{Row}
 use Rattle.es_grammar.specs.types.Modules.{ended}
 use Rattle.es_grammar.specs.types.Expressions.{begins_expression}
 
