@@ -5,6 +5,7 @@ use Rattle.es_token.specs.declared.token.TokenKind.TheVariants as k
 use Rattle.grammar_theory.specs.declared.error.SyntaxError.{SyntaxError}
 use Rattle.grammar_theory.specs.declared.error.Lang.{Lang}
 use Rattle.grammar_theory.specs.declared.error.Lang.TheVariants as lang
+use Rattle.grammar_theory.specs.Languages.{typed}
 use Rattle.grammar_theory.specs.Key.{Key}
 use Rattle.grammar_theory.specs.Productions.{Production, by_predicate, wrap}
 use Rattle.grammar_theory.specs.Reader.{Out}
@@ -68,25 +69,21 @@ module _ (l : Lang) (c : Context) where
 
 -- what stands behind a type, in a language that is known
 module _ (c : Context) (a : Production Row NodeKind) where
-  pub behind_plain : (l : Lang) → l ≡ lang.Es → a ≡ behind_types l c a
-  behind_plain lang.Es e = refl
-  behind_plain lang.Typescript e = absurd (let bad : ⊥ = cc in bad)
+  pub behind_plain : (l : Lang) → typed l ≡ false → a ≡ behind_types l c a
+  behind_plain l e = rw e refl
 
-  pub behind_typed : (l : Lang) → l ≡ lang.Typescript → shift_over l c a ≡ behind_types l c a
-  behind_typed lang.Es e = absurd (let bad : ⊥ = cc in bad)
-  behind_typed lang.Typescript e = refl
+  pub behind_typed : (l : Lang) → typed l ≡ true → shift_over l c a ≡ behind_types l c a
+  behind_typed l e = rw e refl
 
 -- a comparison, in a language that is known
 module _ (c : Context) (a : Production Row NodeKind) where
-  pub related_plain : (l : Lang) → l ≡ lang.Es
+  pub related_plain : (l : Lang) → typed l ≡ false
       → wrap Binary a (by_predicate (opens_comparison l c)) (comparison_in c) ≡ related l c a
-  related_plain lang.Es e = refl
-  related_plain lang.Typescript e = absurd (let bad : ⊥ = cc in bad)
+  related_plain l e = rw e refl
 
-  pub related_typed : (l : Lang) → l ≡ lang.Typescript
+  pub related_typed : (l : Lang) → typed l ≡ true
       → wrap TypedBinary a (by_predicate (opens_comparison l c)) (asserted_or (tight_in c)) ≡ related l c a
-  related_typed lang.Es e = absurd (let bad : ⊥ = cc in bad)
-  related_typed lang.Typescript e = refl
+  related_typed l e = rw e refl
 
 module _ (keeps : Bool) (K : List Key) (below : Row → ℕ → Out Read) where
   -- the same rule reads the same, from the same place on, behind the same entries

@@ -1,7 +1,8 @@
 -- The levels of operators of the table, over the rule of any operand: `sum l c` is `arithmetic_over c (power l c)`, and so on.
+use Rattle.std.specs.Prelude.{if◌then◌else◌}
 use Rattle.es_token.specs.declared.token.TokenKind.TheVariants as k
 use Rattle.grammar_theory.specs.declared.error.Lang.{Lang}
-use Rattle.grammar_theory.specs.declared.error.Lang.TheVariants as lang
+use Rattle.grammar_theory.specs.Languages.{typed}
 use Rattle.grammar_theory.specs.Key.{seen, is}
 use Rattle.grammar_theory.specs.Productions.{as_kind, as_there, greedy, by_predicate, done, tok, punct, row, opt, alt, when_, Production, choose, wrap}
 use Rattle.es_grammar.specs.types.Words.{only, is_other}
@@ -12,6 +13,7 @@ use Rattle.es_grammar.specs.declared.rows.Row.TheVariants.{AssignmentRow, AndRow
 use Rattle.es_grammar.specs.declared.rows.NodeKind.{NodeKind}
 use Rattle.es_grammar.specs.declared.rows.NodeKind.TheVariants.{Assignment, Binary, Conditional, TypedBinary}
 use Rattle.es_grammar.specs.Rows.{without_colon}
+use Rattle.es_grammar.specs.Embedding.{label_by}
 use Rattle.es_grammar.specs.Expressions.{level, private_in, comparison_in, tight_in, asserted_or, opens_shift_in, opens_comparison}
 
 abbrev Rules : Type 0
@@ -30,16 +32,16 @@ shift_over l c a =
 
 -- a comparison, with this rule in the place of its first operand
 abbrev pub related : Lang → Context → Rules → Rules
-related lang.Es c a = wrap Binary a (by_predicate (opens_comparison lang.Es c)) (comparison_in c)
-related lang.Typescript c a = wrap TypedBinary a (by_predicate (opens_comparison lang.Typescript c)) (asserted_or (tight_in c))
+related l c a =
+    wrap (label_by l Binary TypedBinary) a (by_predicate (opens_comparison l c))
+    (if typed l then asserted_or (tight_in c) else comparison_in c)
 
 abbrev pub relation_over : Lang → Context → Rules → Rules
 relation_over l c a = related l c (choose (is k.PrivateName) (private_in c) a)
 
 -- in TypeScript shifts behind a type
 abbrev pub behind_types : Lang → Context → Rules → Rules
-behind_types lang.Es c a = a
-behind_types lang.Typescript c a = shift_over lang.Typescript c a
+behind_types l c a = if typed l then shift_over l c a else a
 
 abbrev pub comparing_over : Lang → Context → Rules → Rules
 comparing_over l c a = level is_equality (RelationRow c) (behind_types l c (relation_over l c (shift_over l c a)))

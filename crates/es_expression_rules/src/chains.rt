@@ -2,7 +2,7 @@
 
 ghost use Rattle.grammar_theory.specs.declared.error.Lang.TheVariants as lang;
 ghost use Rattle.es_expression_rules.specs.Bases.{new_base};
-ghost use Rattle.es_grammar.specs.Expressions.{import_call, source_call, defer_call, import_meta, import_base, imported, base, arguments, plain_member_post, non_null_post, member_post, optional_post, post, chain, callee, import_arguments};
+ghost use Rattle.es_grammar.specs.Expressions.{import_call, source_call, defer_call, import_meta, import_base, imported, base, arguments, plain_member_post, non_null_post, member_post, optional_post, typed_post, plain_post, post, chain, callee, import_arguments};
 
 use crate::operand::Operand;
 use crate::primary::Primary;
@@ -13,7 +13,7 @@ use es_rules::{
 };
 use es_shared_rules::predicates::Lookahead::{Is, Other};
 use es_shared_rules::predicates::{Kinds, Lookahead, Predicate};
-use es_shared_rules::{NewArgumentsIn, TypeArgumentsIn};
+use es_shared_rules::{NewArgumentsIn, TypeArguments, TypeArgumentsIn};
 use es_token::TokenKind;
 use grammar_theory::{Lang, SyntaxError};
 
@@ -367,14 +367,15 @@ impl ReadsProduction<Row> for MemberPost {
         grammar: &Grammar<'_, T>,
         cursor: &mut Cursor,
     ) -> Result<usize, SyntaxError> {
-        match self.0 {
-            Lang::Es => PlainMemberPost(self.1).read(grammar, cursor),
-            Lang::Typescript => Choose(
+        if self.0.is_typed() {
+            Choose(
                 Is(TokenKind::Exclamation),
                 NonNullPost,
                 PlainMemberPost(self.1),
             )
-            .read(grammar, cursor),
+            .read(grammar, cursor)
+        } else {
+            PlainMemberPost(self.1).read(grammar, cursor)
         }
     }
 }
@@ -491,21 +492,21 @@ impl ReadsProduction<Row> for Post {
         grammar: &Grammar<'_, T>,
         cursor: &mut Cursor,
     ) -> Result<usize, SyntaxError> {
-        match self.0 {
-            Lang::Es => PlainPost(self.1).read(grammar, cursor),
-            Lang::Typescript => TypedPost(self.1).read(grammar, cursor),
+        if self.0.is_typed() {
+            TypedPost(self.0, self.1).read(grammar, cursor)
+        } else {
+            PlainPost(self.0, self.1).read(grammar, cursor)
         }
     }
 }
 
 /// Args | '?.' .. | a member
 #[derive(Clone, Copy)]
-struct PlainPost(Context);
+struct PlainPost(Lang, Context);
 
 impl ReadsProduction<Row> for PlainPost {
-    ghost rule = { λ s. post lang.Es s.0 };
+    ghost rule = { λ s. plain_post s.0 s.1 };
 
-    #[tactic(auto, unfolding(es_grammar::specs::Expressions::post))]
     fn read<T: Rows<Row>>(
         &self,
         grammar: &Grammar<'_, T>,
@@ -513,49 +514,48 @@ impl ReadsProduction<Row> for PlainPost {
     ) -> Result<usize, SyntaxError> {
         let tokens = grammar.input.tokens;
         if tokens.sees(TokenKind::OpenParen, cursor.at) {
-            return Make(NodeKind::CallPost, OfRow(Row::ArgumentsRow(self.0), Done)).read(
+            return Make(NodeKind::CallPost, OfRow(Row::ArgumentsRow(self.1), Done)).read(
                 grammar, cursor,
             );
         }
         if tokens.sees(TokenKind::QuestionDot, cursor.at) {
-            return OptionalPost(Lang::Es, self.0).read(grammar, cursor);
+            return OptionalPost(self.0, self.1).read(grammar, cursor);
         }
-        MemberPost(Lang::Es, self.0).read(grammar, cursor)
+        MemberPost(self.0, self.1).read(grammar, cursor)
     }
 }
 
 /// The same of TypeScript: TArgs? Args | TArgs? Tpl | ..
 #[derive(Clone, Copy)]
-struct TypedPost(Context);
+struct TypedPost(Lang, Context);
 
 impl ReadsProduction<Row> for TypedPost {
-    ghost rule = { λ s. post lang.Typescript s.0 };
+    ghost rule = { λ s. typed_post s.0 s.1 };
 
-    #[tactic(auto, unfolding(es_grammar::specs::Expressions::post))]
     fn read<T: Rows<Row>>(
         &self,
         grammar: &Grammar<'_, T>,
         cursor: &mut Cursor,
     ) -> Result<usize, SyntaxError> {
-        let lang = Lang::Typescript;
+        let lang = self.0;
         if Predicate::OpensCall.holds(&grammar.input, cursor.at) {
             return Make(
                 NodeKind::TypedCallPost,
-                TypeArgumentsIn(lang, OfRow(Row::ArgumentsRow(self.0), Done)),
+                TypeArguments(OfRow(Row::ArgumentsRow(self.1), Done)),
             )
             .read(grammar, cursor);
         }
         if Predicate::OpensTypedTemplate.holds(&grammar.input, cursor.at) {
             return Make(
                 NodeKind::TypedTemplatePost,
-                TypeArgumentsIn(lang, OfRow(Row::TemplateRow(self.0), Done)),
+                TypeArguments(OfRow(Row::TemplateRow(self.1), Done)),
             )
             .read(grammar, cursor);
         }
         if grammar.input.tokens.sees(TokenKind::QuestionDot, cursor.at) {
-            return OptionalPost(lang, self.0).read(grammar, cursor);
+            return OptionalPost(lang, self.1).read(grammar, cursor);
         }
-        MemberPost(lang, self.0).read(grammar, cursor)
+        MemberPost(lang, self.1).read(grammar, cursor)
     }
 }
 
@@ -573,33 +573,30 @@ impl ReadsProduction<Row> for Chain {
         grammar: &Grammar<'_, T>,
         cursor: &mut Cursor,
     ) -> Result<usize, SyntaxError> {
-        match self.0 {
-            Lang::Es => {
-                let told = Greedy(Lookahead::BeginsPost);
-                Operand(
-                    NodeKind::Chain,
-                    Base(Lang::Es, true, self.1),
-                    told,
-                    OfRow(
-                        Row::PostRow(self.1),
-                        Many(told, OfRow(Row::PostRow(self.1), Done), Done),
-                    ),
-                )
-                .read(grammar, cursor)
-            }
-            Lang::Typescript => {
-                let told = ByPredicate(Predicate::OpensPost);
-                Operand(
-                    NodeKind::Chain,
-                    Base(Lang::Typescript, true, self.1),
-                    told,
-                    OfRow(
-                        Row::PostRow(self.1),
-                        Many(told, OfRow(Row::PostRow(self.1), Done), Done),
-                    ),
-                )
-                .read(grammar, cursor)
-            }
+        if self.0.is_typed() {
+            let told = ByPredicate(Predicate::OpensPost);
+            Operand(
+                NodeKind::Chain,
+                Base(self.0, true, self.1),
+                told,
+                OfRow(
+                    Row::PostRow(self.1),
+                    Many(told, OfRow(Row::PostRow(self.1), Done), Done),
+                ),
+            )
+            .read(grammar, cursor)
+        } else {
+            let told = Greedy(Lookahead::BeginsPost);
+            Operand(
+                NodeKind::Chain,
+                Base(self.0, true, self.1),
+                told,
+                OfRow(
+                    Row::PostRow(self.1),
+                    Many(told, OfRow(Row::PostRow(self.1), Done), Done),
+                ),
+            )
+            .read(grammar, cursor)
         }
     }
 }

@@ -124,15 +124,12 @@ impl ReadsBehind<Row> for Compared {
         cursor: &mut Cursor,
     ) -> Result<usize, SyntaxError> {
         let told = ByPredicate(Predicate::OpensComparison(self.0, self.1));
-        match self.0 {
-            Lang::Es => Turns(NodeKind::Binary, told, ComparisonIn(self.1)).read(
+        if self.0.is_typed() {
+            Turns(NodeKind::TypedBinary, told, AssertedOr(TightIn(self.1))).read(
                 from, operand, grammar, cursor,
-            ),
-            Lang::Typescript => Turns(
-                NodeKind::TypedBinary,
-                told,
-                AssertedOr(TightIn(self.1)),
-            ).read(from, operand, grammar, cursor),
+            )
+        } else {
+            Turns(NodeKind::Binary, told, ComparisonIn(self.1)).read(from, operand, grammar, cursor)
         }
     }
 }
@@ -196,9 +193,10 @@ impl ReadsBehind<Row> for BehindTypes {
         grammar: &Grammar<'_, T>,
         cursor: &mut Cursor,
     ) -> Result<usize, SyntaxError> {
-        match self.0 {
-            Lang::Es => operand,
-            Lang::Typescript => Shifted(self.0, self.1).read(from, operand, grammar, cursor),
+        if self.0.is_typed() {
+            Shifted(self.0, self.1).read(from, operand, grammar, cursor)
+        } else {
+            operand
         }
     }
 }

@@ -161,9 +161,10 @@ impl ReadsRhs<Row> for NoPower {
         grammar: &Grammar<'_, T>,
         cursor: &mut Cursor,
     ) -> Result<usize, SyntaxError> {
-        match self.0 {
-            Lang::Es => Done.read(grammar, cursor),
-            Lang::Typescript => When(Other(TokenKind::StarStar), Done).read(grammar, cursor),
+        if self.0.is_typed() {
+            When(Other(TokenKind::StarStar), Done).read(grammar, cursor)
+        } else {
+            Done.read(grammar, cursor)
         }
     }
 }

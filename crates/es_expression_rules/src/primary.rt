@@ -205,23 +205,13 @@ impl ReadsProduction<Row> for NamedPrimary {
         grammar: &Grammar<'_, T>,
         cursor: &mut Cursor,
     ) -> Result<usize, SyntaxError> {
-        match self.0 {
-            Lang::Es => {
-                if Predicate::OpensAsyncFunction.holds(&grammar.input, cursor.at) {
-                    return AsyncFunction(Lang::Es, false, self.1).read(grammar, cursor);
-                }
-                NameExpression.read(grammar, cursor)
-            }
-            Lang::Typescript => {
-                if Predicate::OpensAsyncFunction.holds(&grammar.input, cursor.at) {
-                    return AsyncFunction(Lang::Typescript, false, self.1).read(grammar, cursor);
-                }
-                if Predicate::OpensAbstractClass.holds(&grammar.input, cursor.at) {
-                    return AbstractClass(false, self.1).read(grammar, cursor);
-                }
-                NameExpression.read(grammar, cursor)
-            }
+        if Predicate::OpensAsyncFunction.holds(&grammar.input, cursor.at) {
+            return AsyncFunction(self.0, false, self.1).read(grammar, cursor);
         }
+        if self.0.is_typed() && Predicate::OpensAbstractClass.holds(&grammar.input, cursor.at) {
+            return AbstractClass(self.0, false, self.1).read(grammar, cursor);
+        }
+        NameExpression.read(grammar, cursor)
     }
 }
 

@@ -12,7 +12,7 @@ use es_rules::{
 };
 use es_shared_rules::predicates::Lookahead::{Has, Is, Other};
 use es_shared_rules::predicates::{Kinds, Lookahead, Predicate};
-use es_shared_rules::{AnnotationIn, AssertedOr, BracketPattern, Pattern, UsingIn};
+use es_shared_rules::{Annotation, AssertedOr, BracketPattern, Pattern, UsingIn};
 use es_token::TokenKind;
 use grammar_theory::{Lang, SyntaxError};
 
@@ -46,18 +46,19 @@ impl ReadsProduction<Row> for Target {
         grammar: &Grammar<'_, T>,
         cursor: &mut Cursor,
     ) -> Result<usize, SyntaxError> {
-        match self.0 {
-            Lang::Es => As(NodeKind::Target, Chain(Lang::Es, self.1)).read(grammar, cursor),
-            Lang::Typescript => As(
+        if self.0.is_typed() {
+            As(
                 NodeKind::Target,
                 Wrap(
                     NodeKind::TypedBinary,
-                    Chain(Lang::Typescript, self.1),
+                    Chain(self.0, self.1),
                     Greedy(Lookahead::Assertion),
                     AssertedOr(NoForm),
                 ),
             )
-            .read(grammar, cursor),
+            .read(grammar, cursor)
+        } else {
+            As(NodeKind::Target, Chain(self.0, self.1)).read(grammar, cursor)
         }
     }
 }
@@ -188,13 +189,10 @@ impl ReadsRhs<Row> for HeadPatternIn {
         grammar: &Grammar<'_, T>,
         cursor: &mut Cursor,
     ) -> Result<usize, SyntaxError> {
-        match self.0 {
-            Lang::Es => OfRow(Row::HeadPatternRow(self.1), Done).read(grammar, cursor),
-            Lang::Typescript => OfRow(
-                Row::PatternRow(false, self.1),
-                AnnotationIn(Lang::Typescript, Done),
-            )
-            .read(grammar, cursor),
+        if self.0.is_typed() {
+            OfRow(Row::PatternRow(false, self.1), Annotation(Done)).read(grammar, cursor)
+        } else {
+            OfRow(Row::HeadPatternRow(self.1), Done).read(grammar, cursor)
         }
     }
 }

@@ -4,7 +4,6 @@ use Rattle.std.specs.Prelude.{◌+◌, Bool, not, ◌&&◌, ◌||◌, true, fals
 use Rattle.es_token.specs.declared.token.TokenKind.{TokenKind}
 use Rattle.es_token.specs.declared.token.TokenKind.TheVariants as k
 use Rattle.grammar_theory.specs.declared.error.Lang.{Lang}
-use Rattle.grammar_theory.specs.declared.error.Lang.TheVariants as lang
 use Rattle.grammar_theory.specs.Key.{seen, same_kind, has_kind, is}
 use Rattle.grammar_theory.specs.Productions.{as_str, as_name, as_kind, as_there, by_lookahead, greedy, Predicate, Rhs, done, tok, punct, row, opt, many, alt, when_, Production, make, choose, pick}
 use Rattle.es_grammar.specs.types.Words.{only, is_name, is_near, is_other}
@@ -130,13 +129,13 @@ typed_declaration c other =
 
 -- what stands behind `declare` besides variables:
 -- Fn | Class | InterfaceDeclaration | AliasDeclaration | EnumDeclaration | Space
-unfoldable pub declared : Context → Production Row NodeKind
-declared c =
+unfoldable pub declared : Lang → Context → Production Row NodeKind
+declared l c =
     pick opens_enum (enum_ c)
-    (choose (is k.FunctionWord) (function lang.Typescript true c)
-    (choose (is k.ClassWord) (class_ lang.Typescript true c)
-    (pick opens_abstract_class (abstract_class true c)
-    (typed_declaration c (async_function lang.Typescript true c)))))
+    (choose (is k.FunctionWord) (function l true c)
+    (choose (is k.ClassWord) (class_ l true c)
+    (pick opens_abstract_class (abstract_class l true c)
+    (typed_declaration c (async_function l true c)))))
 
 unfoldable pub declares_variables : Predicate
 declares_variables K at = has_kind is_variable_word (seen K (at + 1)) && not (opens_enum K (at + 1))
@@ -157,17 +156,17 @@ plain_declaration l c other =
     (pick opens_async_function (async_function l true c) other))))
 
 -- the declarations of TypeScript alone, and in place of these another rule
-abbrev pub declaration_of_types : Context → Production Row NodeKind → Production Row NodeKind
-declaration_of_types c other =
+abbrev pub declaration_of_types : Lang → Context → Production Row NodeKind → Production Row NodeKind
+declaration_of_types l c other =
     pick opens_enum (enum_ c)
     (pick opens_declare (declare c)
-    (pick opens_abstract_class (abstract_class true c) (typed_declaration c other)))
+    (pick opens_abstract_class (abstract_class l true c) (typed_declaration c other)))
 
 -- Decl: Var END | Using END | Fn | Class
 --       | TS 'declare'? (InterfaceDeclaration | AliasDeclaration | EnumDeclaration | Space)
 --       | TS 'declare' (Var END | Fn | Class)
 unfoldable pub declaration : Lang → Context → Production Row NodeKind → Production Row NodeKind
-declaration l c other = typed_before l (declaration_of_types c) (plain_declaration l c other)
+declaration l c other = typed_before l (declaration_of_types l c) (plain_declaration l c other)
 
 -- Stmt
 unfoldable pub statement : Lang → Context → Production Row NodeKind

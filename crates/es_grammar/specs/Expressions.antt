@@ -4,7 +4,6 @@ use Rattle.std.specs.Prelude.{◌+◌, ◌-◌, Bool, true, false, not, ◌&&◌
 use Rattle.es_token.specs.declared.token.TokenKind.{TokenKind}
 use Rattle.es_token.specs.declared.token.TokenKind.TheVariants as k
 use Rattle.grammar_theory.specs.declared.error.Lang.{Lang}
-use Rattle.grammar_theory.specs.declared.error.Lang.TheVariants as lang
 use Rattle.grammar_theory.specs.Languages.{typed}
 use Rattle.grammar_theory.specs.Key.{TokenTest, seen, same_kind, has_kind, is, is_after_line}
 use Rattle.grammar_theory.specs.Productions.{as_str, as_name, as_raw, as_kind, as_there, by_lookahead, greedy, by_predicate, Predict, Predicate, Rhs, done, tok, punct, row, opt, many, alt, when_, where_, Production, make, choose, pick, wrap}
@@ -58,30 +57,30 @@ opens_new_arguments K at = begins_angle (seen K at) && reads_before types.Argume
 -- ---- arrows
 
 -- in TypeScript `(` opens an arrow also where its `)` is followed by `:`, unless no `:` opens a result here
-abbrev pub follows_parameters : Lang → Context → TokenTest
-follows_parameters l c x = if typed l then is_arrow x || (not c.no_colon && is k.Colon x) else is_arrow x
+abbrev pub follows_parameters : Context → TokenTest
+follows_parameters c x = is_arrow x || (not c.no_colon && is k.Colon x)
 
-unfoldable pub opens_parameters_of_arrow : Lang → Context → Predicate
-opens_parameters_of_arrow l c K at = is k.OpenParen (seen K at) && closes_before (follows_parameters l c) K at
+unfoldable pub opens_parameters_of_arrow : Context → Predicate
+opens_parameters_of_arrow c K at = is k.OpenParen (seen K at) && closes_before (follows_parameters c) K at
 
 -- a name before `=>` on its line, such a `(`; in TypeScript also `<`
 unfoldable pub opens_arrow_here : Lang → Context → Predicate
 opens_arrow_here l c K at =
     if typed l then (has_kind is_name (seen K at) && is_arrow (seen K (at + 1)))
-    || (opens_parameters_of_arrow l c K at || is k.Less (seen K at))
+    || (opens_parameters_of_arrow c K at || is k.Less (seen K at))
     else opens_plain_arrow K at
 
 -- `<` behind `async` on its line opens one exactly where type parameters can be read there and such a `(` follows
 unfoldable pub opens_generic_async : Context → Predicate
 opens_generic_async c K at =
-    is k.Less (seen K at) && reads_before types.TypeParametersRow (opens_parameters_of_arrow lang.Typescript c) K at
+    is k.Less (seen K at) && reads_before types.TypeParametersRow (opens_parameters_of_arrow c) K at
 
 -- `async` before such a name or `(` on its line
 unfoldable pub opens_async_here : Lang → Context → Predicate
 opens_async_here l c K at =
     if typed l then is k.AsyncWord (seen K at) && (not (is_arrow (seen K (at + 1))) && (is_near (seen K (at + 1))
     && ((has_kind is_name (seen K (at + 1)) && is_arrow (seen K (at + 2)))
-    || (opens_parameters_of_arrow l c K (at + 1) || opens_generic_async c K (at + 1)))))
+    || (opens_parameters_of_arrow c K (at + 1) || opens_generic_async c K (at + 1)))))
     else opens_async_arrow K at
 
 unfoldable pub opens_any_arrow : Lang → Context → Predicate
@@ -213,8 +212,8 @@ unfoldable pub class_ : Lang → Bool → Context → Production Row NodeKind
 class_ l named c = make (label_by l Class TypedClass) (class_form l named c)
 
 -- TS 'abstract' 'class' ..
-unfoldable pub abstract_class : Bool → Context → Production Row NodeKind
-abstract_class named c = make AbstractClass (punct k.AbstractWord (class_form lang.Typescript named c))
+unfoldable pub abstract_class : Lang → Bool → Context → Production Row NodeKind
+abstract_class l named c = make AbstractClass (punct k.AbstractWord (class_form l named c))
 
 -- `abstract` before `class`, on a new line too
 unfoldable pub opens_abstract_class : Predicate
@@ -222,7 +221,7 @@ opens_abstract_class K at = is k.AbstractWord (seen K at) && is k.ClassWord (see
 
 -- Class
 unfoldable pub any_class : Lang → Bool → Context → Production Row NodeKind
-any_class l named c = typed_before l (choose (is k.AbstractWord) (abstract_class named c)) (class_ l named c)
+any_class l named c = typed_before l (choose (is k.AbstractWord) (abstract_class l named c)) (class_ l named c)
 
 -- ---- primary expressions
 
@@ -247,7 +246,7 @@ object_literal c =
 -- `(` that opens no arrow
 unfoldable pub opens_no_arrow : Lang → Context → Predicate
 opens_no_arrow l c K at =
-    if typed l then not (closes_before (follows_parameters l c) K at) else is_no_arrow_head K at
+    if typed l then not (closes_before (follows_parameters c) K at) else is_no_arrow_head K at
 
 -- a name that is no part of an arrow, a function, or in TypeScript an abstract class
 unfoldable pub name_expression : Production Row NodeKind
@@ -256,7 +255,7 @@ name_expression = make Name (tok as_name is_name (when_ no_arrow done))
 unfoldable pub named_primary : Lang → Context → Production Row NodeKind
 named_primary l c =
     pick opens_async_function (async_function l false c)
-    (typed_before l (pick opens_abstract_class (abstract_class false c)) name_expression)
+    (typed_before l (pick opens_abstract_class (abstract_class l false c)) name_expression)
 
 -- Prim
 unfoldable pub primary : Lang → Context → Production Row NodeKind
@@ -390,16 +389,23 @@ opens_call K at =
 unfoldable pub opens_typed_template : Predicate
 opens_typed_template K at = begins_angle (seen K at)
 
--- (TS TArgs)? Args | TS TArgs Tpl, and in place of these another rule
-abbrev pub call_post : Lang → Context → Production Row NodeKind → Production Row NodeKind
-call_post l c other =
-    if typed l then pick opens_call (make TypedCallPost (type_arguments_in (row (ArgumentsRow c) done)))
-    (pick opens_typed_template (make TypedTemplatePost (type_arguments_in (row (TemplateRow c) done))) other)
-    else choose (is k.OpenParen) (make CallPost (row (ArgumentsRow c) done)) other
+-- '?.' .. | a member
+abbrev pub other_post : Lang → Context → Production Row NodeKind
+other_post l c = choose (is k.QuestionDot) (optional_post l c) (member_post l c)
+
+-- TArgs? Args | TArgs? Tpl | '?.' .. | a member
+abbrev pub typed_post : Lang → Context → Production Row NodeKind
+typed_post l c =
+    pick opens_call (make TypedCallPost (type_arguments_in (row (ArgumentsRow c) done)))
+    (pick opens_typed_template (make TypedTemplatePost (type_arguments_in (row (TemplateRow c) done))) (other_post l c))
+
+-- Args | '?.' .. | a member
+abbrev pub plain_post : Lang → Context → Production Row NodeKind
+plain_post l c = choose (is k.OpenParen) (make CallPost (row (ArgumentsRow c) done)) (other_post l c)
 
 -- Post: '.' (Name | PrivateName) | '[' Expr ']' | (TS TArgs)? Args | (TS TArgs)? Tpl | '?.' .. | TS ~ '!'
 unfoldable pub post : Lang → Context → Production Row NodeKind
-post l c = call_post l c (choose (is k.QuestionDot) (optional_post l c) (member_post l c))
+post l c = if typed l then typed_post l c else plain_post l c
 
 -- what tells that a chain goes on
 abbrev pub before_post : Lang → Predict

@@ -140,16 +140,24 @@ is_parameter_mark x = is k.Question x || (is k.Colon x || is k.Equal x)
 unfoldable pub opens_marked : Predicate
 opens_marked K at = key_before is_parameter_mark K at
 
--- Param: (TS Mod*)? (Pat | TS 'this') (TS '?')? (TS ':' Type)? ('=' Assign)?, without a node of its own where it is a
--- pattern alone
-unfoldable pub parameter : Lang → Context → Production Row NodeKind
-parameter l c =
-    if typed l then choose (is k.ThisWord) (make ThisParameter (tok as_there (only k.ThisWord) (parameter_tail c)))
+-- Mod* (Pat | 'this') '?'? (':' Type)? ('=' Assign)?
+abbrev pub typed_parameter : Lang → Context → Production Row NodeKind
+typed_parameter l c =
+    choose (is k.ThisWord) (make ThisParameter (tok as_there (only k.ThisWord) (parameter_tail c)))
     (pick (opens_parameter_modifier c)
     (make PropertyParameter (modifiers_in (opens_parameter_modifier c) (row (PatternRow false c) (parameter_tail c))))
     (pick opens_marked (make MarkedParameter (row (PatternRow false c) (parameter_tail c))) (pattern l false c)))
-    else wrap DefaultParameter (pattern l false c) (greedy (is k.Equal))
+
+-- Pat ('=' Assign)?
+abbrev pub plain_parameter : Lang → Context → Production Row NodeKind
+plain_parameter l c =
+    wrap DefaultParameter (pattern l false c) (greedy (is k.Equal))
     (punct k.Equal (row (AssignmentRow (outside c)) (when_ (is_other k.Equal) done)))
+
+-- Param: (TS Mod*)? (Pat | TS 'this') (TS '?')? (TS ':' Type)? ('=' Assign)?, without a node of its own where it is a
+-- pattern alone
+unfoldable pub parameter : Lang → Context → Production Row NodeKind
+parameter l c = if typed l then typed_parameter l c else plain_parameter l c
 
 -- Sig: (TS TParams)? '(' Params ')' (TS ':' Ret)?
 unfoldable pub signature : Lang → Context → Production Row NodeKind
@@ -180,9 +188,11 @@ abbrev pub begins_method : List Key → ℕ → Bool
 begins_method K at =
     opens_parameters (seen K at) || (is k.Question (seen K at) && opens_parameters (seen K (at + 1)))
 
+abbrev pub opens_typed_method : Predicate
+opens_typed_method K at = begins_method K (behind_key at (partner_of (slice_get K at)))
+
 unfoldable pub opens_any_method : Lang → Predicate
-opens_any_method l K at =
-    if typed l then begins_method K (behind_key at (partner_of (slice_get K at))) else opens_method K at
+opens_any_method l K at = if typed l then opens_typed_method K at else opens_method K at
 
 -- a key and its signature; behind the key `constructor` the parameters are those of a constructor
 unfoldable pub typed_head_in : Bool → Context → Context → (Rhs Row → Rhs Row) → Rhs Row → Rhs Row

@@ -38,16 +38,24 @@ is_declarator_mark x = opens_non_null x || (is k.Colon x || is k.Equal x)
 unfoldable pub opens_declarator : Predicate
 opens_declarator K at = key_before is_declarator_mark K at
 
--- Dtor: Pat (TS ~ '!')? (TS ':' Type)? ('=' Assign)?, without a node of its own where it is a pattern alone
-unfoldable pub declarator : Lang → Context → Production Row NodeKind
-declarator l c =
-    if typed l then pick opens_declarator
+-- Pat (~ '!')? (':' Type)? ('=' Assign)?
+abbrev pub typed_declarator : Lang → Context → Production Row NodeKind
+typed_declarator l c =
+    pick opens_declarator
     (make TypedDeclarator (row (PatternRow false (outside c))
     (opt (greedy opens_non_null) (when_ is_near (tok as_there (only k.Exclamation) done))
     (annotation_in (opt (greedy (is k.Equal)) (punct k.Equal (row (AssignmentRow c) done)) done)))))
     (pattern l false (outside c))
-    else wrap Declarator (pattern l false (outside c)) (greedy (is k.Equal))
+
+-- Pat ('=' Assign)?
+abbrev pub plain_declarator : Lang → Context → Production Row NodeKind
+plain_declarator l c =
+    wrap Declarator (pattern l false (outside c)) (greedy (is k.Equal))
     (punct k.Equal (row (AssignmentRow c) (when_ (is_other k.Equal) done)))
+
+-- Dtor: Pat (TS ~ '!')? (TS ':' Type)? ('=' Assign)?, without a node of its own where it is a pattern alone
+unfoldable pub declarator : Lang → Context → Production Row NodeKind
+declarator l c = if typed l then typed_declarator l c else plain_declarator l c
 
 -- Dtor (',' Dtor)*
 unfoldable pub declarators : Context → Rhs Row

@@ -14,7 +14,7 @@ use es_rules::{
 };
 use es_shared_rules::predicates::Lookahead::{Has, Is};
 use es_shared_rules::predicates::{Kinds, Predicate};
-use es_shared_rules::{AnnotationIn, BodyIn, Ended, StarIn};
+use es_shared_rules::{Annotation, BodyIn, Ended, StarIn};
 use es_token::TokenKind;
 use grammar_theory::{Lang, SyntaxError};
 
@@ -78,11 +78,10 @@ impl<N: ReadsRhs<Row> + Copy> ReadsRhs<Row> for MemberHead<N> {
         grammar: &Grammar<'_, T>,
         cursor: &mut Cursor,
     ) -> Result<usize, SyntaxError> {
-        match self.0 {
-            Lang::Es => StaticIn(Where(Predicate::IsPlainMember, self.1)).read(grammar, cursor),
-            Lang::Typescript => {
-                ModifiersIn(Where(Predicate::IsMemberKey, self.1)).read(grammar, cursor)
-            }
+        if self.0.is_typed() {
+            ModifiersIn(Where(Predicate::IsMemberKey, self.1)).read(grammar, cursor)
+        } else {
+            StaticIn(Where(Predicate::IsPlainMember, self.1)).read(grammar, cursor)
         }
     }
 }
@@ -100,19 +99,20 @@ impl<N: ReadsRhs<Row> + Copy> ReadsRhs<Row> for AccessorHead<N> {
         grammar: &Grammar<'_, T>,
         cursor: &mut Cursor,
     ) -> Result<usize, SyntaxError> {
-        match self.0 {
-            Lang::Es => StaticIn(Tok(
-                LeafKind::Kind,
-                Kinds::AccessorWord,
-                Where(Predicate::IsPlainMember, self.1),
-            ))
-            .read(grammar, cursor),
-            Lang::Typescript => ModifiersIn(Tok(
+        if self.0.is_typed() {
+            ModifiersIn(Tok(
                 LeafKind::Kind,
                 Kinds::AccessorWord,
                 Where(Predicate::IsMemberKey, self.1),
             ))
-            .read(grammar, cursor),
+            .read(grammar, cursor)
+        } else {
+            StaticIn(Tok(
+                LeafKind::Kind,
+                Kinds::AccessorWord,
+                Where(Predicate::IsPlainMember, self.1),
+            ))
+            .read(grammar, cursor)
         }
     }
 }
@@ -130,17 +130,18 @@ impl<N: ReadsRhs<Row> + Copy> ReadsRhs<Row> for AsyncHead<N> {
         grammar: &Grammar<'_, T>,
         cursor: &mut Cursor,
     ) -> Result<usize, SyntaxError> {
-        match self.0 {
-            Lang::Es => StaticIn(Punct(
-                TokenKind::AsyncWord,
-                StarIn(Where(Predicate::IsPlainMember, self.1)),
-            ))
-            .read(grammar, cursor),
-            Lang::Typescript => ModifiersIn(Punct(
+        if self.0.is_typed() {
+            ModifiersIn(Punct(
                 TokenKind::AsyncWord,
                 StarIn(Where(Predicate::IsMemberKey, self.1)),
             ))
-            .read(grammar, cursor),
+            .read(grammar, cursor)
+        } else {
+            StaticIn(Punct(
+                TokenKind::AsyncWord,
+                StarIn(Where(Predicate::IsPlainMember, self.1)),
+            ))
+            .read(grammar, cursor)
         }
     }
 }
@@ -158,15 +159,14 @@ impl<N: ReadsRhs<Row> + Copy> ReadsRhs<Row> for StarHead<N> {
         grammar: &Grammar<'_, T>,
         cursor: &mut Cursor,
     ) -> Result<usize, SyntaxError> {
-        match self.0 {
-            Lang::Es => StaticIn(Punct(
-                TokenKind::Star,
-                Where(Predicate::IsPlainMember, self.1),
-            )).read(grammar, cursor),
-            Lang::Typescript => ModifiersIn(Punct(
-                TokenKind::Star,
-                Where(Predicate::IsMemberKey, self.1),
-            )).read(grammar, cursor),
+        if self.0.is_typed() {
+            ModifiersIn(Punct(TokenKind::Star, Where(Predicate::IsMemberKey, self.1))).read(
+                grammar, cursor,
+            )
+        } else {
+            StaticIn(Punct(TokenKind::Star, Where(Predicate::IsPlainMember, self.1))).read(
+                grammar, cursor,
+            )
         }
     }
 }
@@ -184,17 +184,18 @@ impl<N: ReadsRhs<Row> + Copy> ReadsRhs<Row> for FieldHead<N> {
         grammar: &Grammar<'_, T>,
         cursor: &mut Cursor,
     ) -> Result<usize, SyntaxError> {
-        match self.0 {
-            Lang::Es => StaticIn(Punct(
-                TokenKind::AccessorWord,
-                Where(Predicate::IsPlainMember, self.1),
-            ))
-            .read(grammar, cursor),
-            Lang::Typescript => ModifiersIn(Punct(
+        if self.0.is_typed() {
+            ModifiersIn(Punct(
                 TokenKind::AccessorWord,
                 Where(Predicate::IsMemberKey, self.1),
             ))
-            .read(grammar, cursor),
+            .read(grammar, cursor)
+        } else {
+            StaticIn(Punct(
+                TokenKind::AccessorWord,
+                Where(Predicate::IsPlainMember, self.1),
+            ))
+            .read(grammar, cursor)
         }
     }
 }
@@ -235,13 +236,14 @@ impl ReadsRhs<Row> for ClassMethodIn {
         cursor: &mut Cursor,
     ) -> Result<usize, SyntaxError> {
         let body = BodyIn(self.0, self.2);
-        match self.0 {
-            Lang::Es => OfRow(
+        if self.0.is_typed() {
+            MarkedHeadIn(true, self.1, self.2, body).read(grammar, cursor)
+        } else {
+            OfRow(
                 Row::KeyRow(true, self.1),
                 OfRow(Row::SignatureRow(self.2), body),
             )
-            .read(grammar, cursor),
-            Lang::Typescript => { MarkedHeadIn(true, self.1, self.2, body).read(grammar, cursor) }
+            .read(grammar, cursor)
         }
     }
 }
@@ -259,17 +261,18 @@ impl ReadsRhs<Row> for FieldIn {
         grammar: &Grammar<'_, T>,
         cursor: &mut Cursor,
     ) -> Result<usize, SyntaxError> {
-        match self.0 {
-            Lang::Es => { OfRow(Row::KeyRow(true, self.1), ValueIn(self.1)).read(grammar, cursor) }
-            Lang::Typescript => OfRow(
+        if self.0.is_typed() {
+            OfRow(
                 Row::KeyRow(true, self.1),
                 Opt(
                     Greedy(Has(Kinds::FieldMark)),
                     Tok(LeafKind::Kind, Kinds::FieldMark, Done),
-                    AnnotationIn(Lang::Typescript, ValueIn(self.1)),
+                    Annotation(ValueIn(self.1)),
                 ),
             )
-            .read(grammar, cursor),
+            .read(grammar, cursor)
+        } else {
+            OfRow(Row::KeyRow(true, self.1), ValueIn(self.1)).read(grammar, cursor)
         }
     }
 }
@@ -298,10 +301,7 @@ impl ReadsProduction<Row> for IndexMember {
                         TokenKind::Colon,
                         OfRow(
                             Row::TypesRow(TypeRow::TypeRow(true)),
-                            Punct(
-                                TokenKind::CloseBracket,
-                                AnnotationIn(Lang::Typescript, Ended),
-                            ),
+                            Punct(TokenKind::CloseBracket, Annotation(Ended)),
                         ),
                     ),
                 ),
@@ -410,19 +410,9 @@ impl ReadsProduction<Row> for ModifiedMember {
         cursor: &mut Cursor,
     ) -> Result<usize, SyntaxError> {
         let context = self.1;
-        match self.0 {
-            Lang::Es => MemberBehind {
-                lang: Lang::Es,
-                context,
-                accessor: Predicate::BehindStaticAccessor,
-                asynced: Predicate::BehindStaticAsync,
-                star: Predicate::BehindStaticStar,
-                field: Predicate::BehindStaticFieldAccessor,
-                method: Predicate::BehindStaticMethod,
-            }
-            .read(grammar, cursor),
-            Lang::Typescript => MemberBehind {
-                lang: Lang::Typescript,
+        if self.0.is_typed() {
+            MemberBehind {
+                lang: self.0,
                 context,
                 accessor: Predicate::BehindAllAccessor,
                 asynced: Predicate::BehindAllAsync,
@@ -430,7 +420,18 @@ impl ReadsProduction<Row> for ModifiedMember {
                 field: Predicate::BehindAllFieldAccessor,
                 method: Predicate::BehindAllMethod,
             }
-            .read(grammar, cursor),
+            .read(grammar, cursor)
+        } else {
+            MemberBehind {
+                lang: self.0,
+                context,
+                accessor: Predicate::BehindStaticAccessor,
+                asynced: Predicate::BehindStaticAsync,
+                star: Predicate::BehindStaticStar,
+                field: Predicate::BehindStaticFieldAccessor,
+                method: Predicate::BehindStaticMethod,
+            }
+            .read(grammar, cursor)
         }
     }
 }
@@ -448,14 +449,15 @@ impl ReadsProduction<Row> for AnyMember {
         grammar: &Grammar<'_, T>,
         cursor: &mut Cursor,
     ) -> Result<usize, SyntaxError> {
-        match self.0 {
-            Lang::Es => ModifiedMember(Lang::Es, self.1).read(grammar, cursor),
-            Lang::Typescript => Pick(
+        if self.0.is_typed() {
+            Pick(
                 Predicate::BehindAllIndex,
                 IndexMember,
-                ModifiedMember(Lang::Typescript, self.1),
+                ModifiedMember(self.0, self.1),
             )
-            .read(grammar, cursor),
+            .read(grammar, cursor)
+        } else {
+            ModifiedMember(self.0, self.1).read(grammar, cursor)
         }
     }
 }

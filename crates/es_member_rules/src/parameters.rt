@@ -1,7 +1,6 @@
 //! Parameters.
 
-ghost use Rattle.grammar_theory.specs.declared.error.Lang.TheVariants as lang;
-ghost use Rattle.es_grammar.specs.Functions.{mark_in, parameters, parameter_tail, parameter, signature};
+ghost use Rattle.es_grammar.specs.Functions.{mark_in, parameters, parameter_tail, typed_parameter, plain_parameter, parameter, signature};
 
 use es_grammar::{Context, NodeKind, Row};
 use es_rules::{
@@ -10,7 +9,7 @@ use es_rules::{
 };
 use es_shared_rules::predicates::Lookahead::{Is, Other};
 use es_shared_rules::predicates::{Kinds, Lookahead, Predicate};
-use es_shared_rules::{AnnotationIn, DefaultIn, Pattern, ResultIn, TypeParametersIn};
+use es_shared_rules::{Annotation, AnnotationIn, DefaultIn, Pattern, ResultIn, TypeParametersIn};
 use es_token::TokenKind;
 use grammar_theory::{Lang, SyntaxError};
 
@@ -68,7 +67,7 @@ impl ReadsRhs<Row> for ParameterTail {
         grammar: &Grammar<'_, T>,
         cursor: &mut Cursor,
     ) -> Result<usize, SyntaxError> {
-        MarkIn(AnnotationIn(Lang::Typescript, DefaultIn(self.0, Done))).read(grammar, cursor)
+        MarkIn(Annotation(DefaultIn(self.0, Done))).read(grammar, cursor)
     }
 }
 
@@ -96,10 +95,10 @@ impl<N: ReadsRhs<Row> + Copy> ReadsRhs<Row> for MarkIn<N> {
 
 /// Param of TypeScript: Mod* (Pat | 'this') '?'? (':' Type)? ('=' Assign)?
 #[derive(Clone, Copy)]
-struct TypedParameter(Context);
+struct TypedParameter(Lang, Context);
 
 impl ReadsProduction<Row> for TypedParameter {
-    ghost rule = { λ s. parameter lang.Typescript s.0 };
+    ghost rule = { λ s. typed_parameter s.0 s.1 };
 
     #[tactic(auto, unfolding(es_grammar::specs::Functions::parameter, es_grammar::specs::Functions::modifiers_in))]
     fn read<T: Rows<Row>>(
@@ -107,7 +106,7 @@ impl ReadsProduction<Row> for TypedParameter {
         grammar: &Grammar<'_, T>,
         cursor: &mut Cursor,
     ) -> Result<usize, SyntaxError> {
-        let marked = OfRow(Row::PatternRow(false, self.0), ParameterTail(self.0));
+        let marked = OfRow(Row::PatternRow(false, self.1), ParameterTail(self.1));
         Choose(
             Is(TokenKind::ThisWord),
             Make(
@@ -115,17 +114,17 @@ impl ReadsProduction<Row> for TypedParameter {
                 Tok(
                     LeafKind::There,
                     Kinds::Only(TokenKind::ThisWord),
-                    ParameterTail(self.0),
+                    ParameterTail(self.1),
                 ),
             ),
             Pick(
-                Predicate::OpensParameterModifier(self.0),
+                Predicate::OpensParameterModifier(self.1),
                 Make(
                     NodeKind::PropertyParameter,
                     Where(
-                        Predicate::ParameterModifiersOnce(self.0),
+                        Predicate::ParameterModifiersOnce(self.1),
                         Many(
-                            ByPredicate(Predicate::OpensParameterModifier(self.0)),
+                            ByPredicate(Predicate::OpensParameterModifier(self.1)),
                             Tok(LeafKind::Kind, Kinds::Modifier, Done),
                             marked,
                         ),
@@ -134,7 +133,7 @@ impl ReadsProduction<Row> for TypedParameter {
                 Pick(
                     Predicate::OpensMarked,
                     Make(NodeKind::MarkedParameter, marked),
-                    Pattern(Lang::Typescript, false, self.0),
+                    Pattern(self.0, false, self.1),
                 ),
             ),
         )
@@ -155,21 +154,21 @@ impl ReadsProduction<Row> for Parameter {
         grammar: &Grammar<'_, T>,
         cursor: &mut Cursor,
     ) -> Result<usize, SyntaxError> {
-        match self.0 {
-            Lang::Es => PlainParameter(self.1).read(grammar, cursor),
-            Lang::Typescript => TypedParameter(self.1).read(grammar, cursor),
+        if self.0.is_typed() {
+            TypedParameter(self.0, self.1).read(grammar, cursor)
+        } else {
+            PlainParameter(self.0, self.1).read(grammar, cursor)
         }
     }
 }
 
 /// Param of JavaScript.
 #[derive(Clone, Copy)]
-struct PlainParameter(Context);
+struct PlainParameter(Lang, Context);
 
 impl ReadsProduction<Row> for PlainParameter {
-    ghost rule = { λ s. parameter lang.Es s.0 };
+    ghost rule = { λ s. plain_parameter s.0 s.1 };
 
-    #[tactic(auto, unfolding(es_grammar::specs::Functions::parameter))]
     fn read<T: Rows<Row>>(
         &self,
         grammar: &Grammar<'_, T>,
@@ -179,11 +178,11 @@ impl ReadsProduction<Row> for PlainParameter {
             no_in: false,
             no_colon: false,
             in_constructor: false,
-            ..self.0
+            ..self.1
         };
         Wrap(
             NodeKind::DefaultParameter,
-            Pattern(Lang::Es, false, self.0),
+            Pattern(self.0, false, self.1),
             Greedy(Is(TokenKind::Equal)),
             Punct(
                 TokenKind::Equal,

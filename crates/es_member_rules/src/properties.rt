@@ -190,13 +190,14 @@ impl ReadsRhs<Row> for MethodIn {
         cursor: &mut Cursor,
     ) -> Result<usize, SyntaxError> {
         let body = OfRow(Row::BlockRow(self.2), Done);
-        match self.0 {
-            Lang::Es => OfRow(
+        if self.0.is_typed() {
+            HeadIn(false, self.1, self.2, body).read(grammar, cursor)
+        } else {
+            OfRow(
                 Row::KeyRow(false, self.1),
                 OfRow(Row::SignatureRow(self.2), body),
             )
-            .read(grammar, cursor),
-            Lang::Typescript => { HeadIn(false, self.1, self.2, body).read(grammar, cursor) }
+            .read(grammar, cursor)
         }
     }
 }

@@ -36,9 +36,10 @@ fn row(input: Input<'_>, room: usize, row: Row, cursor: &mut Cursor) -> Result<u
 fn angles_in(alloc: Global, lang: Lang, tokens: &[Token]) -> Result<Vec<Angle>, AllocError>
     ensures { IfOk result (λ angles. AreRight (keys_of tokens.now) angles.items) }
 {
-    match lang {
-        Lang::Es => Ok(Vec::new(alloc)),
-        Lang::Typescript => angles_of(alloc, tokens),
+    if lang.is_typed() {
+        angles_of(alloc, tokens)
+    } else {
+        Ok(Vec::new(alloc))
     }
 }
 

@@ -99,10 +99,7 @@ impl<R, P: ReadsRhs<R>> ReadsProduction<R> for Make<P> {
 fn label_by(lang: Lang, plain: NodeKind, typed: NodeKind) -> NodeKind
     ensures { result ≡ label_by lang plain typed }
 {
-    match lang {
-        Lang::Es => plain,
-        Lang::Typescript => typed,
-    }
+    if lang.is_typed() { typed } else { plain }
 }
 
 /// A node with these parts, whose alternative is another one in TypeScript.

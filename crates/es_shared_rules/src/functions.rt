@@ -75,19 +75,18 @@ impl<N: ReadsRhs<Row> + Copy> ReadsRhs<Row> for ClassNameIn<N> {
         grammar: &Grammar<'_, T>,
         cursor: &mut Cursor,
     ) -> Result<usize, SyntaxError> {
-        match self.0 {
-            Lang::Es => NameIn(self.1, self.2).read(grammar, cursor),
-            Lang::Typescript => {
-                if self.1 {
-                    return NameIn(true, self.2).read(grammar, cursor);
-                }
-                Opt(
-                    ByPredicate(Predicate::OpensClassName),
-                    Tok(LeafKind::Name, Kinds::Name, Done),
-                    self.2,
-                )
-                .read(grammar, cursor)
+        if self.0.is_typed() {
+            if self.1 {
+                return NameIn(true, self.2).read(grammar, cursor);
             }
+            Opt(
+                ByPredicate(Predicate::OpensClassName),
+                Tok(LeafKind::Name, Kinds::Name, Done),
+                self.2,
+            )
+            .read(grammar, cursor)
+        } else {
+            NameIn(self.1, self.2).read(grammar, cursor)
         }
     }
 }
@@ -105,15 +104,16 @@ impl ReadsRhs<Row> for BodyIn {
         grammar: &Grammar<'_, T>,
         cursor: &mut Cursor,
     ) -> Result<usize, SyntaxError> {
-        match self.0 {
-            Lang::Es => OfRow(Row::BlockRow(self.1), Done).read(grammar, cursor),
-            Lang::Typescript => Alt(
+        if self.0.is_typed() {
+            Alt(
                 Is(TokenKind::OpenBrace),
                 OfRow(Row::BlockRow(self.1), Done),
                 When(Other(TokenKind::OpenBrace), Ended),
                 Done,
             )
-            .read(grammar, cursor),
+            .read(grammar, cursor)
+        } else {
+            OfRow(Row::BlockRow(self.1), Done).read(grammar, cursor)
         }
     }
 }
@@ -289,10 +289,10 @@ impl ReadsProduction<Row> for Class {
 
 /// TS 'abstract' 'class' ..
 #[derive(Clone, Copy)]
-pub struct AbstractClass(pub bool, pub Context);
+pub struct AbstractClass(pub Lang, pub bool, pub Context);
 
 impl ReadsProduction<Row> for AbstractClass {
-    ghost rule = { λ s. abstract_class s.0 s.1 };
+    ghost rule = { λ s. abstract_class s.0 s.1 s.2 };
 
     #[tactic(auto, unfolding(es_grammar::specs::Expressions::abstract_class))]
     fn read<T: Rows<Row>>(
@@ -302,10 +302,7 @@ impl ReadsProduction<Row> for AbstractClass {
     ) -> Result<usize, SyntaxError> {
         Make(
             NodeKind::AbstractClass,
-            Punct(
-                TokenKind::AbstractWord,
-                ClassForm(Lang::Typescript, self.0, self.1),
-            ),
+            Punct(TokenKind::AbstractWord, ClassForm(self.0, self.1, self.2)),
         )
         .read(grammar, cursor)
     }
@@ -324,14 +321,15 @@ impl ReadsProduction<Row> for AnyClass {
         grammar: &Grammar<'_, T>,
         cursor: &mut Cursor,
     ) -> Result<usize, SyntaxError> {
-        match self.0 {
-            Lang::Es => Class(Lang::Es, self.1, self.2).read(grammar, cursor),
-            Lang::Typescript => Choose(
+        if self.0.is_typed() {
+            Choose(
                 Is(TokenKind::AbstractWord),
-                AbstractClass(self.1, self.2),
-                Class(Lang::Typescript, self.1, self.2),
+                AbstractClass(self.0, self.1, self.2),
+                Class(self.0, self.1, self.2),
             )
-            .read(grammar, cursor),
+            .read(grammar, cursor)
+        } else {
+            Class(self.0, self.1, self.2).read(grammar, cursor)
         }
     }
 }

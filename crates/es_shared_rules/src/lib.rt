@@ -14,6 +14,7 @@ pub use functions::{
 };
 pub use patterns::{ArrayPattern, BracketPattern, DefaultIn, ObjectPattern, Pattern};
 pub use typed::{
-    AnnotationIn, ArrowResultIn, Asserted, AssertedOr, HeritageIn, ImplementsIn, NewArgumentsIn,
-    ReferencesIn, ResultIn, TypeArgumentsIn, TypeParametersIn, without_colon,
+    Annotation, AnnotationIn, ArrowResultIn, Asserted, AssertedOr, HeritageIn, ImplementsIn,
+    NewArgumentsIn, ReferencesIn, ResultIn, TypeArguments, TypeArgumentsIn, TypeParameters,
+    TypeParametersIn, without_colon,
 };

@@ -1,6 +1,5 @@
 //! Parts of TypeScript alone: in JavaScript none of them is there.
 
-ghost use Rattle.grammar_theory.specs.declared.error.Lang.TheVariants as lang;
 ghost use Rattle.std.specs.Prelude.{◌≡◌};
 ghost use Rattle.es_grammar.specs.Rows.{without_colon};
 ghost use Rattle.es_grammar.specs.Embedding.{typed_in, type_parameters_in, type_arguments_in, annotation_in, result_in};
@@ -20,12 +19,13 @@ use grammar_theory::{Lang, SyntaxError};
 pub fn without_colon(lang: Lang, context: Context) -> Context
     ensures { result ≡ without_colon lang context }
 {
-    match lang {
-        Lang::Es => context,
-        Lang::Typescript => Context {
+    if lang.is_typed() {
+        Context {
             no_colon: true,
             ..context
-        },
+        }
+    } else {
+        context
     }
 }
 
@@ -57,12 +57,12 @@ impl<N: ReadsRhs<Row> + Copy> ReadsRhs<Row> for ReferencesIn<N> {
     }
 }
 
-/// (TS TParams)?, and what follows.
+/// (TParams)?, and what follows.
 #[derive(Clone, Copy)]
-pub struct TypeParametersIn<N>(pub Lang, pub N);
+pub struct TypeParameters<N>(pub N);
 
-impl<N: ReadsRhs<Row> + Copy> ReadsRhs<Row> for TypeParametersIn<N> {
-    ghost form = { λ s. typed_in s.0 type_parameters_in (N.form s.1) };
+impl<N: ReadsRhs<Row> + Copy> ReadsRhs<Row> for TypeParameters<N> {
+    ghost form = { λ s. type_parameters_in (N.form s.0) };
 
     #[tactic(auto, unfolding(es_grammar::specs::Embedding::type_parameters_in))]
     fn read<T: Rows<Row>>(
@@ -70,15 +70,54 @@ impl<N: ReadsRhs<Row> + Copy> ReadsRhs<Row> for TypeParametersIn<N> {
         grammar: &Grammar<'_, T>,
         cursor: &mut Cursor,
     ) -> Result<usize, SyntaxError> {
-        match self.0 {
-            Lang::Es => self.1.read(grammar, cursor),
-            Lang::Typescript => Opt(
-                Greedy(Is(TokenKind::Less)),
-                OfRow(Row::TypesRow(TypeRow::TypeParametersRow), Done),
-                self.1,
-            )
-            .read(grammar, cursor),
+        Opt(
+            Greedy(Is(TokenKind::Less)),
+            OfRow(Row::TypesRow(TypeRow::TypeParametersRow), Done),
+            self.0,
+        )
+        .read(grammar, cursor)
+    }
+}
+
+/// (TS TParams)?, and what follows.
+#[derive(Clone, Copy)]
+pub struct TypeParametersIn<N>(pub Lang, pub N);
+
+impl<N: ReadsRhs<Row> + Copy> ReadsRhs<Row> for TypeParametersIn<N> {
+    ghost form = { λ s. typed_in s.0 type_parameters_in (N.form s.1) };
+
+    fn read<T: Rows<Row>>(
+        &self,
+        grammar: &Grammar<'_, T>,
+        cursor: &mut Cursor,
+    ) -> Result<usize, SyntaxError> {
+        if self.0.is_typed() {
+            TypeParameters(self.1).read(grammar, cursor)
+        } else {
+            self.1.read(grammar, cursor)
         }
+    }
+}
+
+/// (TArgs)?, and what follows.
+#[derive(Clone, Copy)]
+pub struct TypeArguments<N>(pub N);
+
+impl<N: ReadsRhs<Row> + Copy> ReadsRhs<Row> for TypeArguments<N> {
+    ghost form = { λ s. type_arguments_in (N.form s.0) };
+
+    #[tactic(auto, unfolding(es_grammar::specs::Embedding::type_arguments_in))]
+    fn read<T: Rows<Row>>(
+        &self,
+        grammar: &Grammar<'_, T>,
+        cursor: &mut Cursor,
+    ) -> Result<usize, SyntaxError> {
+        Opt(
+            Greedy(Lookahead::BeginsAngle),
+            OfRow(Row::TypesRow(TypeRow::ArgumentsRow), Done),
+            self.0,
+        )
+        .read(grammar, cursor)
     }
 }
 
@@ -89,21 +128,41 @@ pub struct TypeArgumentsIn<N>(pub Lang, pub N);
 impl<N: ReadsRhs<Row> + Copy> ReadsRhs<Row> for TypeArgumentsIn<N> {
     ghost form = { λ s. typed_in s.0 type_arguments_in (N.form s.1) };
 
-    #[tactic(auto, unfolding(es_grammar::specs::Embedding::type_arguments_in))]
     fn read<T: Rows<Row>>(
         &self,
         grammar: &Grammar<'_, T>,
         cursor: &mut Cursor,
     ) -> Result<usize, SyntaxError> {
-        match self.0 {
-            Lang::Es => self.1.read(grammar, cursor),
-            Lang::Typescript => Opt(
-                Greedy(Lookahead::BeginsAngle),
-                OfRow(Row::TypesRow(TypeRow::ArgumentsRow), Done),
-                self.1,
-            )
-            .read(grammar, cursor),
+        if self.0.is_typed() {
+            TypeArguments(self.1).read(grammar, cursor)
+        } else {
+            self.1.read(grammar, cursor)
         }
+    }
+}
+
+/// (':' Type)?, and what follows.
+#[derive(Clone, Copy)]
+pub struct Annotation<N>(pub N);
+
+impl<N: ReadsRhs<Row> + Copy> ReadsRhs<Row> for Annotation<N> {
+    ghost form = { λ s. annotation_in (N.form s.0) };
+
+    #[tactic(auto, unfolding(es_grammar::specs::Embedding::annotation_in))]
+    fn read<T: Rows<Row>>(
+        &self,
+        grammar: &Grammar<'_, T>,
+        cursor: &mut Cursor,
+    ) -> Result<usize, SyntaxError> {
+        Opt(
+            Greedy(Is(TokenKind::Colon)),
+            Punct(
+                TokenKind::Colon,
+                OfRow(Row::TypesRow(TypeRow::TypeRow(true)), Done),
+            ),
+            self.0,
+        )
+        .read(grammar, cursor)
     }
 }
 
@@ -114,23 +173,15 @@ pub struct AnnotationIn<N>(pub Lang, pub N);
 impl<N: ReadsRhs<Row> + Copy> ReadsRhs<Row> for AnnotationIn<N> {
     ghost form = { λ s. typed_in s.0 annotation_in (N.form s.1) };
 
-    #[tactic(auto, unfolding(es_grammar::specs::Embedding::annotation_in))]
     fn read<T: Rows<Row>>(
         &self,
         grammar: &Grammar<'_, T>,
         cursor: &mut Cursor,
     ) -> Result<usize, SyntaxError> {
-        match self.0 {
-            Lang::Es => self.1.read(grammar, cursor),
-            Lang::Typescript => Opt(
-                Greedy(Is(TokenKind::Colon)),
-                Punct(
-                    TokenKind::Colon,
-                    OfRow(Row::TypesRow(TypeRow::TypeRow(true)), Done),
-                ),
-                self.1,
-            )
-            .read(grammar, cursor),
+        if self.0.is_typed() {
+            Annotation(self.1).read(grammar, cursor)
+        } else {
+            self.1.read(grammar, cursor)
         }
     }
 }
@@ -148,9 +199,8 @@ impl<N: ReadsRhs<Row> + Copy> ReadsRhs<Row> for ResultIn<N> {
         grammar: &Grammar<'_, T>,
         cursor: &mut Cursor,
     ) -> Result<usize, SyntaxError> {
-        match self.0 {
-            Lang::Es => self.1.read(grammar, cursor),
-            Lang::Typescript => Opt(
+        if self.0.is_typed() {
+            Opt(
                 Greedy(Is(TokenKind::Colon)),
                 Punct(
                     TokenKind::Colon,
@@ -158,7 +208,9 @@ impl<N: ReadsRhs<Row> + Copy> ReadsRhs<Row> for ResultIn<N> {
                 ),
                 self.1,
             )
-            .read(grammar, cursor),
+            .read(grammar, cursor)
+        } else {
+            self.1.read(grammar, cursor)
         }
     }
 }
@@ -176,14 +228,15 @@ impl<N: ReadsRhs<Row> + Copy> ReadsRhs<Row> for NewArgumentsIn<N> {
         grammar: &Grammar<'_, T>,
         cursor: &mut Cursor,
     ) -> Result<usize, SyntaxError> {
-        match self.0 {
-            Lang::Es => self.1.read(grammar, cursor),
-            Lang::Typescript => Opt(
+        if self.0.is_typed() {
+            Opt(
                 ByPredicate(Predicate::OpensNewArguments),
                 OfRow(Row::TypesRow(TypeRow::ArgumentsRow), Done),
                 self.1,
             )
-            .read(grammar, cursor),
+            .read(grammar, cursor)
+        } else {
+            self.1.read(grammar, cursor)
         }
     }
 }
@@ -201,14 +254,15 @@ impl<N: ReadsRhs<Row> + Copy> ReadsRhs<Row> for HeritageIn<N> {
         grammar: &Grammar<'_, T>,
         cursor: &mut Cursor,
     ) -> Result<usize, SyntaxError> {
-        match self.0 {
-            Lang::Es => self.1.read(grammar, cursor),
-            Lang::Typescript => Opt(
+        if self.0.is_typed() {
+            Opt(
                 ByPredicate(Predicate::OpensHeritageArguments),
                 OfRow(Row::TypesRow(TypeRow::ArgumentsRow), Done),
                 self.1,
             )
-            .read(grammar, cursor),
+            .read(grammar, cursor)
+        } else {
+            self.1.read(grammar, cursor)
         }
     }
 }
@@ -226,14 +280,15 @@ impl<N: ReadsRhs<Row> + Copy> ReadsRhs<Row> for ImplementsIn<N> {
         grammar: &Grammar<'_, T>,
         cursor: &mut Cursor,
     ) -> Result<usize, SyntaxError> {
-        match self.0 {
-            Lang::Es => self.1.read(grammar, cursor),
-            Lang::Typescript => Opt(
+        if self.0.is_typed() {
+            Opt(
                 Greedy(Is(TokenKind::ImplementsWord)),
                 Punct(TokenKind::ImplementsWord, ReferencesIn(Done)),
                 self.1,
             )
-            .read(grammar, cursor),
+            .read(grammar, cursor)
+        } else {
+            self.1.read(grammar, cursor)
         }
     }
 }
@@ -251,9 +306,8 @@ impl<N: ReadsRhs<Row> + Copy> ReadsRhs<Row> for ArrowResultIn<N> {
         grammar: &Grammar<'_, T>,
         cursor: &mut Cursor,
     ) -> Result<usize, SyntaxError> {
-        match self.0 {
-            Lang::Es => self.2.read(grammar, cursor),
-            Lang::Typescript => Opt(
+        if self.0.is_typed() {
+            Opt(
                 ByPredicate(Predicate::OpensArrowResult(self.1)),
                 Punct(
                     TokenKind::Colon,
@@ -261,7 +315,9 @@ impl<N: ReadsRhs<Row> + Copy> ReadsRhs<Row> for ArrowResultIn<N> {
                 ),
                 self.2,
             )
-            .read(grammar, cursor),
+            .read(grammar, cursor)
+        } else {
+            self.2.read(grammar, cursor)
         }
     }
 }

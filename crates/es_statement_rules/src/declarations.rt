@@ -1,7 +1,6 @@
 //! Blocks and declarations.
 
-ghost use Rattle.grammar_theory.specs.declared.error.Lang.TheVariants as lang;
-ghost use Rattle.es_grammar.specs.Statements.{condition_in, block, declarator, declarators, variables, using_};
+ghost use Rattle.es_grammar.specs.Statements.{condition_in, block, typed_declarator, declarator, declarators, variables, using_};
 ghost use Rattle.es_grammar.specs.Declarations.{plain_declaration, declaration};
 
 use crate::typed::{Declare, Enum, TypedDeclaration};
@@ -13,7 +12,7 @@ use es_rules::{
 use es_shared_rules::predicates::Lookahead::{Is, Other};
 use es_shared_rules::predicates::{Kinds, Lookahead, Predicate};
 use es_shared_rules::{
-    AbstractClass, AnnotationIn, AsyncFunction, Class, Ended, Function, Pattern, UsingIn,
+    AbstractClass, Annotation, AsyncFunction, Class, Ended, Function, Pattern, UsingIn,
 };
 use es_token::TokenKind;
 use grammar_theory::{Lang, SyntaxError};
@@ -89,10 +88,12 @@ impl ReadsProduction<Row> for Declarator {
             in_constructor: false,
             ..self.1
         };
-        match self.0 {
-            Lang::Es => Wrap(
+        if self.0.is_typed() {
+            TypedDeclarator(self.0, self.1).read(grammar, cursor)
+        } else {
+            Wrap(
                 NodeKind::Declarator,
-                Pattern(Lang::Es, false, outside),
+                Pattern(self.0, false, outside),
                 Greedy(Is(TokenKind::Equal)),
                 Punct(
                     TokenKind::Equal,
@@ -102,20 +103,18 @@ impl ReadsProduction<Row> for Declarator {
                     ),
                 ),
             )
-            .read(grammar, cursor),
-            Lang::Typescript => TypedDeclarator(self.1).read(grammar, cursor),
+            .read(grammar, cursor)
         }
     }
 }
 
 /// The same of TypeScript: Pat '!'? (':' Type)? ('=' Assign)?
 #[derive(Clone, Copy)]
-struct TypedDeclarator(Context);
+struct TypedDeclarator(Lang, Context);
 
 impl ReadsProduction<Row> for TypedDeclarator {
-    ghost rule = { λ s. declarator lang.Typescript s.0 };
+    ghost rule = { λ s. typed_declarator s.0 s.1 };
 
-    #[tactic(auto, unfolding(es_grammar::specs::Statements::declarator))]
     fn read<T: Rows<Row>>(
         &self,
         grammar: &Grammar<'_, T>,
@@ -125,11 +124,11 @@ impl ReadsProduction<Row> for TypedDeclarator {
             no_in: false,
             no_colon: false,
             in_constructor: false,
-            ..self.0
+            ..self.1
         };
         let value = Opt(
             Greedy(Is(TokenKind::Equal)),
-            Punct(TokenKind::Equal, OfRow(Row::AssignmentRow(self.0), Done)),
+            Punct(TokenKind::Equal, OfRow(Row::AssignmentRow(self.1), Done)),
             Done,
         );
         Pick(
@@ -144,11 +143,11 @@ impl ReadsProduction<Row> for TypedDeclarator {
                             Lookahead::Near,
                             Tok(LeafKind::There, Kinds::Only(TokenKind::Exclamation), Done),
                         ),
-                        AnnotationIn(Lang::Typescript, value),
+                        Annotation(value),
                     ),
                 ),
             ),
-            Pattern(Lang::Typescript, false, outside),
+            Pattern(self.0, false, outside),
         )
         .read(grammar, cursor)
     }
@@ -230,9 +229,8 @@ impl<A: ReadsProduction<Row> + Copy> ReadsProduction<Row> for Declaration<A> {
         grammar: &Grammar<'_, T>,
         cursor: &mut Cursor,
     ) -> Result<usize, SyntaxError> {
-        match self.0 {
-            Lang::Es => PlainDeclaration(Lang::Es, self.1, self.2).read(grammar, cursor),
-            Lang::Typescript => Pick(
+        if self.0.is_typed() {
+            Pick(
                 Predicate::OpensEnum,
                 Enum(self.1),
                 Pick(
@@ -240,15 +238,14 @@ impl<A: ReadsProduction<Row> + Copy> ReadsProduction<Row> for Declaration<A> {
                     Declare(self.1),
                     Pick(
                         Predicate::OpensAbstractClass,
-                        AbstractClass(true, self.1),
-                        TypedDeclaration(
-                            self.1,
-                            PlainDeclaration(Lang::Typescript, self.1, self.2),
-                        ),
+                        AbstractClass(self.0, true, self.1),
+                        TypedDeclaration(self.1, PlainDeclaration(self.0, self.1, self.2)),
                     ),
                 ),
             )
-            .read(grammar, cursor),
+            .read(grammar, cursor)
+        } else {
+            PlainDeclaration(self.0, self.1, self.2).read(grammar, cursor)
         }
     }
 }

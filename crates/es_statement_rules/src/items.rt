@@ -82,14 +82,15 @@ impl ReadsProduction<Row> for OtherDefault {
         grammar: &Grammar<'_, T>,
         cursor: &mut Cursor,
     ) -> Result<usize, SyntaxError> {
-        match self.0 {
-            Lang::Es => DefaultExpression(self.1).read(grammar, cursor),
-            Lang::Typescript => Pick(
+        if self.0.is_typed() {
+            Pick(
                 Predicate::OpensDefaultInterface,
                 DefaultInterface(self.1),
                 DefaultExpression(self.1),
             )
-            .read(grammar, cursor),
+            .read(grammar, cursor)
+        } else {
+            DefaultExpression(self.1).read(grammar, cursor)
         }
     }
 }
@@ -151,9 +152,8 @@ impl ReadsProduction<Row> for ExportNames {
         grammar: &Grammar<'_, T>,
         cursor: &mut Cursor,
     ) -> Result<usize, SyntaxError> {
-        match self.0 {
-            Lang::Es => Export(Lang::Es).read(grammar, cursor),
-            Lang::Typescript => Pick(
+        if self.0.is_typed() {
+            Pick(
                 Predicate::OpensExportAssignment,
                 Make(
                     NodeKind::ExportAssignment,
@@ -162,9 +162,11 @@ impl ReadsProduction<Row> for ExportNames {
                         Punct(TokenKind::Equal, OfRow(Row::ExpressionRow(self.1), Ended)),
                     ),
                 ),
-                Export(Lang::Typescript),
+                Export(self.0),
             )
-            .read(grammar, cursor),
+            .read(grammar, cursor)
+        } else {
+            Export(self.0).read(grammar, cursor)
         }
     }
 }

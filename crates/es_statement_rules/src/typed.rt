@@ -10,7 +10,7 @@ use es_rules::{
 use es_shared_rules::predicates::Lookahead::{Is, Other};
 use es_shared_rules::predicates::{Kinds, Predicate};
 use es_shared_rules::{
-    AbstractClass, AsyncFunction, Class, DefaultIn, Ended, Function, ReferencesIn, TypeParametersIn,
+    AbstractClass, AsyncFunction, Class, DefaultIn, Ended, Function, ReferencesIn, TypeParameters,
 };
 use es_token::TokenKind;
 use grammar_theory::{Lang, SyntaxError};
@@ -85,14 +85,11 @@ impl ReadsProduction<Row> for Interface {
                 Tok(
                     LeafKind::Name,
                     Kinds::Name,
-                    TypeParametersIn(
-                        Lang::Typescript,
-                        Opt(
-                            Greedy(Is(TokenKind::ExtendsWord)),
-                            Punct(TokenKind::ExtendsWord, ReferencesIn(Done)),
-                            TypeMembers,
-                        ),
-                    ),
+                    TypeParameters(Opt(
+                        Greedy(Is(TokenKind::ExtendsWord)),
+                        Punct(TokenKind::ExtendsWord, ReferencesIn(Done)),
+                        TypeMembers,
+                    )),
                 ),
             ),
         )
@@ -120,13 +117,10 @@ impl ReadsProduction<Row> for Alias {
                 Tok(
                     LeafKind::Name,
                     Kinds::Name,
-                    TypeParametersIn(
-                        Lang::Typescript,
-                        Punct(
-                            TokenKind::Equal,
-                            OfRow(Row::TypesRow(TypeRow::TypeRow(true)), Ended),
-                        ),
-                    ),
+                    TypeParameters(Punct(
+                        TokenKind::Equal,
+                        OfRow(Row::TypesRow(TypeRow::TypeRow(true)), Ended),
+                    )),
                 ),
             ),
         )
@@ -299,10 +293,10 @@ impl<A: ReadsProduction<Row> + Copy> ReadsProduction<Row> for TypedDeclaration<A
 
 /// What follows `declare` besides variables.
 #[derive(Clone, Copy)]
-pub struct Declared(pub Context);
+pub struct Declared(pub Lang, pub Context);
 
 impl ReadsProduction<Row> for Declared {
-    ghost rule = { λ s. declared s.0 };
+    ghost rule = { λ s. declared s.0 s.1 };
 
     #[tactic(auto, unfolding(es_grammar::specs::Declarations::declared))]
     fn read<T: Rows<Row>>(
@@ -310,20 +304,20 @@ impl ReadsProduction<Row> for Declared {
         grammar: &Grammar<'_, T>,
         cursor: &mut Cursor,
     ) -> Result<usize, SyntaxError> {
-        let lang = Lang::Typescript;
+        let lang = self.0;
         Pick(
             Predicate::OpensEnum,
-            Enum(self.0),
+            Enum(self.1),
             Choose(
                 Is(TokenKind::FunctionWord),
-                Function(lang, true, self.0),
+                Function(lang, true, self.1),
                 Choose(
                     Is(TokenKind::ClassWord),
-                    Class(lang, true, self.0),
+                    Class(lang, true, self.1),
                     Pick(
                         Predicate::OpensAbstractClass,
-                        AbstractClass(true, self.0),
-                        TypedDeclaration(self.0, AsyncFunction(lang, true, self.0)),
+                        AbstractClass(lang, true, self.1),
+                        TypedDeclaration(self.1, AsyncFunction(lang, true, self.1)),
                     ),
                 ),
             ),

@@ -49,7 +49,7 @@ impl ReadsProduction<Row> for AnyProduction {
             Row::DeclarationRow(context) => {
                 Declaration(self.0, context, Refuse).read(grammar, cursor)
             }
-            Row::DeclaredRow(context) => Declared(context).read(grammar, cursor),
+            Row::DeclaredRow(context) => Declared(self.0, context).read(grammar, cursor),
             Row::VariablesRow(context) => Variables(context).read(grammar, cursor),
             Row::DeclaratorRow(context) => Declarator(self.0, context).read(grammar, cursor),
             Row::UsingRow(context) => Using(context).read(grammar, cursor),

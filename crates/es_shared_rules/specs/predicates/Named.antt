@@ -3,7 +3,6 @@ use Rattle.std.specs.Prelude.{ℕ, leb, Bool, true, false, ◌||◌, List, Optio
 use Rattle.es_token.specs.declared.token.TokenKind.{TokenKind}
 use Rattle.grammar_theory.specs.Key.{Key, TokenTest, has_kind}
 use Rattle.grammar_theory.specs.Productions.{Predicate}
-use Rattle.grammar_theory.specs.declared.error.Lang.TheVariants as lang
 use Rattle.es_grammar.specs.types.Functions.{opens_accessor, opens_async, opens_star}
 use Rattle.es_grammar.specs.types.Classes.{opens_field_accessor}
 use Rattle.es_grammar.specs.types.Members.{shows_index}
@@ -15,7 +14,7 @@ use Rattle.es_lookahead.specs.declared.named.Lookahead.TheVariants as plain_look
 use Rattle.es_lookahead.specs.declared.named.Predicate.TheVariants as plain_predicate
 use Rattle.es_grammar.specs.Embedding.{opens_call_arguments, opens_heritage_arguments}
 use Rattle.es_grammar.specs.Expressions.{is_assertion_word, opens_new_arguments, opens_class_name, is_tight, comes_behind, is_tightest, begins_parameters, begins_arguments, begins_callee_post, opens_operand, opens_assertion, opens_non_null, opens_any_arrow, opens_async_here, opens_async_list, opens_arrow_result, opens_no_arrow, opens_post, opens_call, opens_typed_template, opens_shift_in, opens_comparison, is_behind_as, opens_abstract_class, may_await, may_test, is_module}
-use Rattle.es_grammar.specs.Functions.{is_typed_modifier, is_modifier, opens_parameter_modifier, each_once, opens_marked, opens_any_method}
+use Rattle.es_grammar.specs.Functions.{is_typed_modifier, is_modifier, opens_parameter_modifier, each_once, opens_marked, opens_typed_method, opens_any_method}
 use Rattle.es_grammar.specs.Classes.{opens_modifier, behind_all, is_member_key, is_field_mark}
 use Rattle.es_grammar.specs.Statements.{begins_value_here, is_script, opens_declarator, opens_initial}
 use Rattle.es_grammar.specs.Declarations.{is_declaration_word, is_namespace_word, opens_interface, opens_alias, opens_enum, opens_namespace, opens_module, opens_global, opens_declare, declares_variables}
@@ -184,7 +183,7 @@ predicate_of predicate.BehindAllAccessor = behind_all (opens_accessor true)
 predicate_of predicate.BehindAllAsync = behind_all (opens_async true)
 predicate_of predicate.BehindAllStar = behind_all opens_star
 predicate_of predicate.BehindAllFieldAccessor = behind_all opens_field_accessor
-predicate_of predicate.BehindAllMethod = behind_all (opens_any_method lang.Typescript)
+predicate_of predicate.BehindAllMethod = behind_all opens_typed_method
 predicate_of predicate.OpensDeclarator = opens_declarator
 predicate_of predicate.OpensInitial = opens_initial
 predicate_of predicate.OpensInterface = opens_interface

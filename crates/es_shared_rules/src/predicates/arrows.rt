@@ -2,7 +2,6 @@
 
 ghost use Rattle.std.specs.Prelude.{◌≡◌};
 ghost use Rattle.grammar_theory.specs.Key.{keys_of};
-ghost use Rattle.grammar_theory.specs.declared.error.Lang.TheVariants as lang;
 ghost use Rattle.es_grammar.specs.types.Words.{closes_before};
 ghost use Rattle.es_grammar.specs.Expressions.{follows_parameters, opens_parameters_of_arrow, opens_arrow_here, opens_generic_async, opens_async_here, opens_any_arrow, opens_arrow_result, opens_async_list, opens_no_arrow};
 
@@ -16,7 +15,7 @@ use std::alloc::Global;
 
 /// Whether the bracket that matches the one here directly precedes what follows an arrow's parameters.
 fn closes_parameters(tokens: &Tokens<'_>, context: Context, at: usize) -> bool
-    ensures { result ≡ closes_before (follows_parameters lang.Typescript context) (keys_of tokens.now.tokens.now) at }
+    ensures { result ≡ closes_before (follows_parameters context) (keys_of tokens.now.tokens.now) at }
 {
     match tokens.partner(at) {
         Some(closer) => {
@@ -30,7 +29,7 @@ fn closes_parameters(tokens: &Tokens<'_>, context: Context, at: usize) -> bool
 /// `(` that opens an arrow of TypeScript.
 #[tactic(auto, unfolding(es_grammar::specs::Expressions::opens_parameters_of_arrow))]
 fn opens_parameters_of_arrow(tokens: &Tokens<'_>, context: Context, at: usize) -> bool
-    ensures { result ≡ opens_parameters_of_arrow lang.Typescript context (keys_of tokens.now.tokens.now) at }
+    ensures { result ≡ opens_parameters_of_arrow context (keys_of tokens.now.tokens.now) at }
 {
     tokens.sees(TokenKind::OpenParen, at) && closes_parameters(tokens, context, at)
 }
@@ -40,13 +39,12 @@ fn opens_parameters_of_arrow(tokens: &Tokens<'_>, context: Context, at: usize) -
 fn opens_arrow_here(tokens: &Tokens<'_>, lang: Lang, context: Context, at: usize) -> bool
     ensures { result ≡ opens_arrow_here lang context (keys_of tokens.now.tokens.now) at }
 {
-    match lang {
-        Lang::Es => tokens.opens_plain_arrow(at),
-        Lang::Typescript => {
-            (tokens.sees_name(at) && is_arrow(tokens.seen_after(at, 1)))
-                || opens_parameters_of_arrow(tokens, context, at)
-                || tokens.sees(TokenKind::Less, at)
-        }
+    if lang.is_typed() {
+        (tokens.sees_name(at) && is_arrow(tokens.seen_after(at, 1)))
+            || opens_parameters_of_arrow(tokens, context, at)
+            || tokens.sees(TokenKind::Less, at)
+    } else {
+        tokens.opens_plain_arrow(at)
     }
 }
 
@@ -75,20 +73,19 @@ pub fn opens_async_here(
 ) -> bool
     ensures { result ≡ opens_async_here lang context (keys_of tokens.now.tokens.now) at }
 {
-    match lang {
-        Lang::Es => tokens.opens_async_arrow(at),
-        Lang::Typescript => {
-            if !tokens.stands(TokenKind::AsyncWord, at) {
-                return false;
-            }
-            let next = tokens.seen(at + 1);
-            if is_arrow(next) || !is_near(next) {
-                return false;
-            }
-            (has_name(next) && is_arrow(tokens.seen_after(at, 2)))
-                || opens_parameters_of_arrow(tokens, context, at + 1)
-                || opens_generic_async(tokens, alloc, context, at + 1)
+    if lang.is_typed() {
+        if !tokens.stands(TokenKind::AsyncWord, at) {
+            return false;
         }
+        let next = tokens.seen(at + 1);
+        if is_arrow(next) || !is_near(next) {
+            return false;
+        }
+        (has_name(next) && is_arrow(tokens.seen_after(at, 2)))
+            || opens_parameters_of_arrow(tokens, context, at + 1)
+            || opens_generic_async(tokens, alloc, context, at + 1)
+    } else {
+        tokens.opens_async_arrow(at)
     }
 }
 
@@ -120,12 +117,11 @@ pub fn opens_arrow_result(tokens: &Tokens<'_>, context: Context, at: usize) -> b
 pub fn opens_async_list(tokens: &Tokens<'_>, lang: Lang, at: usize) -> bool
     ensures { result ≡ opens_async_list lang (keys_of tokens.now.tokens.now) at }
 {
-    match lang {
-        Lang::Es => tokens.opens_async_parenthesis(at),
-        Lang::Typescript => {
-            let next = tokens.seen_after(at, 1);
-            is(TokenKind::OpenParen, next) || is(TokenKind::Less, next)
-        }
+    if lang.is_typed() {
+        let next = tokens.seen_after(at, 1);
+        is(TokenKind::OpenParen, next) || is(TokenKind::Less, next)
+    } else {
+        tokens.opens_async_parenthesis(at)
     }
 }
 
@@ -134,8 +130,9 @@ pub fn opens_async_list(tokens: &Tokens<'_>, lang: Lang, at: usize) -> bool
 pub fn opens_no_arrow(tokens: &Tokens<'_>, lang: Lang, context: Context, at: usize) -> bool
     ensures { result ≡ opens_no_arrow lang context (keys_of tokens.now.tokens.now) at }
 {
-    match lang {
-        Lang::Es => tokens.is_no_arrow_head(at),
-        Lang::Typescript => !closes_parameters(tokens, context, at),
+    if lang.is_typed() {
+        !closes_parameters(tokens, context, at)
+    } else {
+        tokens.is_no_arrow_head(at)
     }
 }

@@ -5,8 +5,7 @@ ghost use Rattle.grammar_theory.specs.Key.{keys_of, seen};
 ghost use Rattle.es_grammar.specs.types.Functions.{opens_accessor, opens_async, opens_star};
 ghost use Rattle.es_grammar.specs.types.Classes.{opens_field_accessor};
 ghost use Rattle.es_grammar.specs.types.Members.{shows_index};
-ghost use Rattle.grammar_theory.specs.declared.error.Lang.TheVariants as lang;
-ghost use Rattle.es_grammar.specs.Functions.{opens_parameter_modifier, stands_again, each_once, opens_marked, begins_method, opens_any_method};
+ghost use Rattle.es_grammar.specs.Functions.{opens_parameter_modifier, stands_again, each_once, opens_marked, begins_method, opens_typed_method, opens_any_method};
 ghost use Rattle.es_grammar.specs.Classes.{opens_modifier, behind_modifiers, behind_all, is_member_key};
 ghost use Rattle.es_grammar.specs.Statements.{opens_declarator};
 ghost use Rattle.es_lookahead.specs.Sight.{sight};
@@ -146,12 +145,20 @@ fn begins_method(tokens: &Tokens<'_>, at: usize) -> bool
 pub fn opens_any_method(tokens: &Tokens<'_>, lang: Lang, at: usize) -> bool
     ensures { result ≡ opens_any_method lang (keys_of tokens.now.tokens.now) at }
 {
-    match lang {
-        Lang::Es => tokens.opens_method(at),
-        Lang::Typescript => match tokens.partner(at) {
-            Some(closer) => begins_method_after(tokens, closer),
-            None => begins_method_after(tokens, at),
-        },
+    if lang.is_typed() {
+        opens_typed_method(tokens, at)
+    } else {
+        tokens.opens_method(at)
+    }
+}
+
+/// The key of a method is here, in TypeScript.
+fn opens_typed_method(tokens: &Tokens<'_>, at: usize) -> bool
+    ensures { result ≡ opens_typed_method (keys_of tokens.now.tokens.now) at }
+{
+    match tokens.partner(at) {
+        Some(closer) => begins_method_after(tokens, closer),
+        None => begins_method_after(tokens, at),
     }
 }
 
@@ -227,9 +234,9 @@ pub fn behind_all_field_accessor(tokens: &Tokens<'_>, at: usize) -> bool
 /// The key of a method after the modifiers.
 #[tactic(auto, unfolding(es_grammar::specs::Classes::behind_all))]
 pub fn behind_all_method(tokens: &Tokens<'_>, at: usize) -> bool
-    ensures { result ≡ behind_all (opens_any_method lang.Typescript) (keys_of tokens.now.tokens.now) at }
+    ensures { result ≡ behind_all opens_typed_method (keys_of tokens.now.tokens.now) at }
 {
-    opens_any_method(tokens, Lang::Typescript, behind_modifiers(tokens, at))
+    opens_typed_method(tokens, behind_modifiers(tokens, at))
 }
 
 /// `[ Name :` after the modifiers.

@@ -139,9 +139,10 @@ fn heads_typed_behind(tokens: &Tokens<'_>, at: usize) -> bool
 pub fn opens_any_declaration(tokens: &Tokens<'_>, lang: Lang, at: usize) -> bool
     ensures { result ≡ opens_any_declaration lang (keys_of tokens.now.tokens.now) at }
 {
-    match lang {
-        Lang::Es => tokens.opens_declaration(at),
-        Lang::Typescript => tokens.opens_declaration(at) || heads_typed_behind(tokens, at),
+    if lang.is_typed() {
+        tokens.opens_declaration(at) || heads_typed_behind(tokens, at)
+    } else {
+        tokens.opens_declaration(at)
     }
 }
 
@@ -150,13 +151,12 @@ pub fn opens_any_declaration(tokens: &Tokens<'_>, lang: Lang, at: usize) -> bool
 pub fn opens_any_default_class(tokens: &Tokens<'_>, lang: Lang, at: usize) -> bool
     ensures { result ≡ opens_any_default_class lang (keys_of tokens.now.tokens.now) at }
 {
-    match lang {
-        Lang::Es => tokens.opens_default_class(at),
-        Lang::Typescript => {
-            tokens.opens_default_class(at)
-                || (is(TokenKind::AbstractWord, tokens.seen_after(at, 2))
-                    && is(TokenKind::ClassWord, tokens.seen_after(at, 3)))
-        }
+    if lang.is_typed() {
+        tokens.opens_default_class(at)
+            || (is(TokenKind::AbstractWord, tokens.seen_after(at, 2))
+                && is(TokenKind::ClassWord, tokens.seen_after(at, 3)))
+    } else {
+        tokens.opens_default_class(at)
     }
 }
 

@@ -22,9 +22,10 @@ use std::alloc::Global;
 fn begins_value(tokens: &Tokens<'_>, lang: Lang, at: usize) -> bool
     ensures { result ≡ begins_value lang (seen (keys_of tokens.now.tokens.now) at) }
 {
-    match lang {
-        Lang::Es => tokens.begins_expression(at),
-        Lang::Typescript => tokens.sees(TokenKind::Less, at) || tokens.begins_expression(at),
+    if lang.is_typed() {
+        tokens.sees(TokenKind::Less, at) || tokens.begins_expression(at)
+    } else {
+        tokens.begins_expression(at)
     }
 }
 
@@ -47,11 +48,10 @@ pub fn opens_operand(tokens: &Tokens<'_>, lang: Lang, at: usize) -> bool
 pub fn begins_parameters(tokens: &Tokens<'_>, lang: Lang, at: usize) -> bool
     ensures { result ≡ begins_parameters lang (seen (keys_of tokens.now.tokens.now) at) }
 {
-    match lang {
-        Lang::Es => tokens.sees(TokenKind::OpenParen, at),
-        Lang::Typescript => {
-            tokens.sees(TokenKind::OpenParen, at) || tokens.sees(TokenKind::Less, at)
-        }
+    if lang.is_typed() {
+        tokens.sees(TokenKind::OpenParen, at) || tokens.sees(TokenKind::Less, at)
+    } else {
+        tokens.sees(TokenKind::OpenParen, at)
     }
 }
 
@@ -67,9 +67,10 @@ pub fn begins_angle(tokens: &Tokens<'_>, at: usize) -> bool
 pub fn begins_arguments(tokens: &Tokens<'_>, lang: Lang, at: usize) -> bool
     ensures { result ≡ begins_arguments lang (seen (keys_of tokens.now.tokens.now) at) }
 {
-    match lang {
-        Lang::Es => tokens.sees(TokenKind::OpenParen, at),
-        Lang::Typescript => tokens.sees(TokenKind::OpenParen, at) || begins_angle(tokens, at),
+    if lang.is_typed() {
+        tokens.sees(TokenKind::OpenParen, at) || begins_angle(tokens, at)
+    } else {
+        tokens.sees(TokenKind::OpenParen, at)
     }
 }
 
@@ -78,9 +79,10 @@ pub fn begins_arguments(tokens: &Tokens<'_>, lang: Lang, at: usize) -> bool
 pub fn opens_shift_in(tokens: &Tokens<'_>, alloc: Global, lang: Lang, at: usize) -> bool
     ensures { result ≡ opens_shift_in lang (keys_of tokens.now.tokens.now) at }
 {
-    match lang {
-        Lang::Es => tokens.opens_shift(at),
-        Lang::Typescript => tokens.opens_shift(at) && !opens_call_arguments(tokens, alloc, at),
+    if lang.is_typed() {
+        tokens.opens_shift(at) && !opens_call_arguments(tokens, alloc, at)
+    } else {
+        tokens.opens_shift(at)
     }
 }
 
@@ -88,9 +90,10 @@ pub fn opens_shift_in(tokens: &Tokens<'_>, alloc: Global, lang: Lang, at: usize)
 pub fn begins_callee_post(tokens: &Tokens<'_>, lang: Lang, at: usize) -> bool
     ensures { result ≡ begins_callee_post lang (seen (keys_of tokens.now.tokens.now) at) }
 {
-    match lang {
-        Lang::Es => tokens.begins_member(at),
-        Lang::Typescript => tokens.begins_member(at) || opens_non_null(tokens.seen(at)),
+    if lang.is_typed() {
+        tokens.begins_member(at) || opens_non_null(tokens.seen(at))
+    } else {
+        tokens.begins_member(at)
     }
 }
 
@@ -183,13 +186,12 @@ pub fn opens_comparison(
         return true;
     }
     let barred = context.no_in && tokens.sees(TokenKind::InWord, at);
-    match lang {
-        Lang::Es => tokens.sees_relation(at) && !barred,
-        Lang::Typescript => {
-            let next = tokens.seen(at);
-            opens_assertion(next)
-                || (has(Kinds::Tight, next) && !barred && !opens_call_arguments(tokens, alloc, at))
-        }
+    if lang.is_typed() {
+        let next = tokens.seen(at);
+        opens_assertion(next)
+            || (has(Kinds::Tight, next) && !barred && !opens_call_arguments(tokens, alloc, at))
+    } else {
+        tokens.sees_relation(at) && !barred
     }
 }
 
