@@ -1,8 +1,8 @@
 pub mod types_lemmas
 pub mod Sets
-mod OnRows
+pub mod OnRows
 mod OnKeys
-mod Languages
+pub mod Languages
 mod TypesClaims
 mod RowClaims
 mod Claims

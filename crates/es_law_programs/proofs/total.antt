@@ -13,6 +13,5 @@ mod Build
 mod Rows
 mod Once
 mod TypeClaims
-mod EsClaims
-mod TypescriptClaims
+mod RowClaims
 pub mod Theorems

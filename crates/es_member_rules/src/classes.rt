@@ -1,6 +1,5 @@
 //! Members of classes.
 
-ghost use Rattle.grammar_theory.specs.declared.error.Lang.TheVariants as lang;
 ghost use Rattle.es_grammar.specs.Functions.{modifiers_in};
 ghost use Rattle.es_grammar.specs.Classes.{static_in, opens_modifier, head_in, marked_in, accessor_word_in, async_word_in, star_word_in, field_word_in, value_in, class_method_in, field_in, index_member, modified_member, any_member, member};
 ghost use Rattle.es_shared_rules.specs.predicates.Named.{predicate_of};

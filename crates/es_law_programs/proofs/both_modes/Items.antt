@@ -56,11 +56,12 @@ module _ (K : List Key) (Below : Row → Plain NodeKind → ℕ → ℕ → Type
   declaration_eases lang.Es c = same_rule K Below each
   declaration_eases lang.Typescript c = same_rule K Below each
 
-  pub declared_eases : (c : Context) → RuleEases (declared c) (declared (both c))
+  pub declared_eases : (l : Lang) (c : Context) → RuleEases (declared l c) (declared l (both c))
   unfolding declared ended function async_function class_ class_form class_name_in name_in star_in
       body_in heritage_in implements_in references_in abstract_class type_parameters_in enum_ default_in type_members
       interface alias items_in namespace module_namespace global typed_declaration
-  declared_eases c = same_rule K Below each
+  declared_eases lang.Es c = same_rule K Below each
+  declared_eases lang.Typescript c = same_rule K Below each
 
   pub variables_eases : (c : Context) → RuleEases (variables c) (variables (both c))
   unfolding variables declarators

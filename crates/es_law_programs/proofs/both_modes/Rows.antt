@@ -32,7 +32,7 @@ module _ (K : List Key) (Below : Row → Plain NodeKind → ℕ → ℕ → Type
   row_eases l (StatementRow c) = rules.statement_eases K Below each l c
   row_eases l (BlockRow c) = items.block_eases K Below each c
   row_eases l (DeclarationRow c) = items.declaration_eases K Below each l c
-  row_eases l (DeclaredRow c) = items.declared_eases K Below each c
+  row_eases l (DeclaredRow c) = items.declared_eases K Below each l c
   row_eases l (VariablesRow c) = items.variables_eases K Below each c
   row_eases l (DeclaratorRow c) = items.declarator_eases K Below each l c
   row_eases l (UsingRow c) = rules.using_eases K Below each c

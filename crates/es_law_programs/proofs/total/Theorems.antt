@@ -2,6 +2,8 @@
 use Rattle.std.specs.Prelude.{List, length, true, ◌||◌, Option, Some, None}
 use Rattle.std.proofs.Common.{◌≡◌, ℕ, refl, subst, sym, inl, inr}
 use Rattle.es_token.specs.declared.token.Token.{Token}
+use Rattle.grammar_theory.specs.Tells.{implies}
+use Rattle.grammar_theory.proofs.FreeLemmas.{holds_then}
 use Rattle.grammar_theory.specs.declared.error.Lang.{Lang}
 use Rattle.grammar_theory.specs.declared.error.Lang.TheVariants as lang
 use Rattle.grammar_theory.specs.declared.error.Mode.{Mode}
@@ -19,6 +21,7 @@ use Rattle.es_grammar.specs.Table.{rule}
 use Rattle.es_grammar.specs.Conditions.{leans, program_row, IsProgram}
 use Rattle.es_grammar.proofs.Theorems.{free_is_chosen}
 use Rattle.es_grammar.specs.cst.Slim.{tree_of}
+use Rattle.es_grammar.proofs.Languages.{holds_in}
 use Rattle.es_lowering.specs.Lowering.{value_of}
 use Rattle.es_lowering.specs.derives.Derives.{program_in, Derives}
 use Rattle.es_law_programs.proofs.total.Uses.{Use, as_program, IsThere, same_use, same_uses}
@@ -29,18 +32,21 @@ use Rattle.es_law_programs.proofs.total.Table.{needs}
 use Rattle.es_law_programs.proofs.total.Rules.{rule_ok, row_has}
 use Rattle.es_law_programs.proofs.total.Build.{built}
 use Rattle.es_law_programs.proofs.total.Once.{row_shuts}
-use Rattle.es_law_programs.proofs.total.EsClaims.{es_first, es_second}
-use Rattle.es_law_programs.proofs.total.TypescriptClaims.{ty_first, ty_second}
+use Rattle.es_law_programs.proofs.total.RowClaims.{gives_first, gives_second}
 
 first_ok : (l : Lang) (r : Row) → yields l r (first_use l r) ≡ true
     → rule_ok (yields l) needs (shut r) (rule l r) (first_use l r) ≡ true
-first_ok lang.Es r e = es_first r e
-first_ok lang.Typescript r e = ty_first r e
+first_ok l r =
+    holds_then (yields l r (first_use l r)) (rule_ok (yields l) needs (shut r) (rule l r) (first_use l r))
+    (holds_in (λ m. implies (yields m r (first_use m r)) (rule_ok (yields m) needs (shut r) (rule m r) (first_use m r)))
+    (gives_first r) l)
 
 second_ok : (l : Lang) (r : Row) → yields l r (second_use l r) ≡ true
     → rule_ok (yields l) needs (shut r) (rule l r) (second_use l r) ≡ true
-second_ok lang.Es r e = es_second r e
-second_ok lang.Typescript r e = ty_second r e
+second_ok l r =
+    holds_then (yields l r (second_use l r)) (rule_ok (yields l) needs (shut r) (rule l r) (second_use l r))
+    (holds_in (λ m. implies (yields m r (second_use m r)) (rule_ok (yields m) needs (shut r) (rule m r) (second_use m r)))
+    (gives_second r) l)
 
 -- what a row gives is its first or its second use
 yields_one : (l : Lang) (r : Row) (u : Use) → yields l r u ≡ true
