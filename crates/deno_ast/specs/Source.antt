@@ -15,7 +15,7 @@ use Rattle.es_parser.specs.Answers.{IsOwn}
 use Rattle.media_type.specs.declared.media_type.MediaType.{MediaType}
 use Rattle.parse_diagnostic.specs.Diagnosis.{Diagnosis}
 use Rattle.deno_ast.specs.declared.syntax.Syntax.{Syntax}
-use Rattle.deno_ast.specs.declared.syntax.Syntax.TheVariants.{Es, Typescript}
+use Rattle.deno_ast.specs.declared.syntax.Syntax.TheVariants.{Es, Typescript, Jsx, Tsx, Wide}
 use Rattle.deno_ast.specs.declared.params.ParseParams.{ParseParams}
 use Rattle.source_reading.specs.Tree.{language_of}
 use Rattle.source_reading.specs.Read.{IsRead}
@@ -27,6 +27,9 @@ use Rattle.deno_ast.specs.Scopes.{AreScoped}
 abbrev pub lang_of : Syntax → Lang
 lang_of Es = lang.Es
 lang_of Typescript = lang.Typescript
+lang_of Jsx = lang.Jsx
+lang_of Tsx = lang.Tsx
+lang_of Wide = lang.Wide
 
 -- the language that was asked for, else that of the media type
 abbrev pub lang_in : Option Syntax → MediaType → Lang

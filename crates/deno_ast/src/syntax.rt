@@ -9,8 +9,16 @@ use media_type::MediaType;
 /// What a source is read as.
 #[derive(Clone, Copy, Debug, PartialEq, Eq)]
 pub enum Syntax {
+    /// ECMAScript alone.
     Es,
+    /// ECMAScript with the types and declarations of TypeScript.
     Typescript,
+    /// ECMAScript with elements of JSX and decorators.
+    Jsx,
+    /// TypeScript with elements of JSX and decorators.
+    Tsx,
+    /// TypeScript with decorators, and with assertions that stand before what is asserted.
+    Wide,
 }
 
 /// The syntax of sources of this media type: that of TypeScript exactly for typed ones.
@@ -37,5 +45,8 @@ fn lang_of(syntax: Syntax) -> Lang
     match syntax {
         Syntax::Es => Lang::Es,
         Syntax::Typescript => Lang::Typescript,
+        Syntax::Jsx => Lang::Jsx,
+        Syntax::Tsx => Lang::Tsx,
+        Syntax::Wide => Lang::Wide,
     }
 }

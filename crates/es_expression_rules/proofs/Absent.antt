@@ -94,21 +94,36 @@ module _ (keeps : Bool) (K : List Key) (below : Row → ℕ → Out Read) (from 
   pub private_chosen : (l : Lang) (c : Context) (p a : Production Row NodeKind) → is k.PrivateName (seen K from) ≡ true
       → IsReadBy (related l c p) → IsReadBy (related l c (choose (is k.PrivateName) p a))
   private_chosen lang.Es c p a named read = rw named read
+  private_chosen lang.Jsx c p a named read = rw named read
   private_chosen lang.Typescript c p a named read = rw named read
+  private_chosen lang.Tsx c p a named read = rw named read
+  private_chosen lang.Wide c p a named read = rw named read
 
   related_absent : (l : Lang) (c : Context) (a : Production Row NodeKind) → has_kind is_comparing (seen K new.at) ≡ false
       → IsReadBy a → IsReadBy (related l c a)
   related_absent lang.Es c a none read =
       wrap_absent Binary a (by_predicate (opens_comparison lang.Es c)) (comparison_in c)
       (no_comparison K new.at lang.Es c none) read
+  related_absent lang.Jsx c a none read =
+      wrap_absent Binary a (by_predicate (opens_comparison lang.Jsx c)) (comparison_in c)
+      (no_comparison K new.at lang.Jsx c none) read
   related_absent lang.Typescript c a none read =
       wrap_absent TypedBinary a (by_predicate (opens_comparison lang.Typescript c)) (asserted_or (tight_in c))
       (no_comparison K new.at lang.Typescript c none) read
+  related_absent lang.Tsx c a none read =
+      wrap_absent TypedBinary a (by_predicate (opens_comparison lang.Tsx c)) (asserted_or (tight_in c))
+      (no_comparison K new.at lang.Tsx c none) read
+  related_absent lang.Wide c a none read =
+      wrap_absent TypedBinary a (by_predicate (opens_comparison lang.Wide c)) (asserted_or (tight_in c))
+      (no_comparison K new.at lang.Wide c none) read
 
   behind_absent : (l : Lang) (c : Context) (a : Production Row NodeKind) → has_kind is_comparing (seen K new.at) ≡ false
       → IsReadBy a → IsReadBy (behind_types l c a)
   behind_absent lang.Es c a none read = read
+  behind_absent lang.Jsx c a none read = read
   behind_absent lang.Typescript c a none read = shift_absent lang.Typescript c a none read
+  behind_absent lang.Tsx c a none read = shift_absent lang.Tsx c a none read
+  behind_absent lang.Wide c a none read = shift_absent lang.Wide c a none read
 
   pub comparing_absent : (l : Lang) (c : Context) (a : Production Row NodeKind) → has_kind is_comparing (seen K new.at) ≡ false
       → is k.PrivateName (seen K from) ≡ false → IsReadBy a → IsReadBy (comparing_over l c a)

@@ -121,13 +121,31 @@ module _ (K : List Key) (at : ℕ) where
   pub no_shift : (l : Lang) → has_kind is_comparing (seen K at) ≡ false → opens_shift_in l K at ≡ false
   unfolding opens_shift_in
   no_shift lang.Es none = plain_shift none
+  no_shift lang.Jsx none = plain_shift none
   no_shift lang.Typescript none = rw (plain_shift none) refl
+  no_shift lang.Tsx none = rw (plain_shift none) refl
+  no_shift lang.Wide none = rw (plain_shift none) refl
 
   pub no_comparison : (l : Lang) (c : Context) → has_kind is_comparing (seen K at) ≡ false
       → opens_comparison l c K at ≡ false
   unfolding opens_comparison opens_greater opens_assertion
   no_comparison lang.Es c none = rw (no_greater (seen K at) none, no_relation (seen K at) none) refl
+  no_comparison lang.Jsx c none = rw (no_greater (seen K at) none, no_relation (seen K at) none) refl
   no_comparison lang.Typescript c none =
+      rw (
+        no_greater (seen K at) none,
+        no_tight (seen K at) none,
+        no_word (seen K at) none,
+        and_false (is_near (seen K at)),
+      ) refl
+  no_comparison lang.Tsx c none =
+      rw (
+        no_greater (seen K at) none,
+        no_tight (seen K at) none,
+        no_word (seen K at) none,
+        and_false (is_near (seen K at)),
+      ) refl
+  no_comparison lang.Wide c none =
       rw (
         no_greater (seen K at) none,
         no_tight (seen K at) none,

@@ -38,7 +38,10 @@ module _ (l : Lang) (c : Context) where
 relation_shift : (l : Lang) (c : Context) → behind_types l c (relation_over l c (shift l c)) ≡ relation l c
 unfolding relation shifted
 relation_shift lang.Es c = refl
+relation_shift lang.Jsx c = refl
 relation_shift lang.Typescript c = refl
+relation_shift lang.Tsx c = refl
+relation_shift lang.Wide c = refl
 
 module _ (l : Lang) (c : Context) where
   pub relation_same : behind_types l c (relation_over l c (shift_over l c (arithmetic_over c (power l c)))) ≡ relation l c

@@ -267,30 +267,66 @@ members_tell : (c : Context) →
 unfolding rules_on_rows holds_everywhere
 members_tell c = (refl, refl, refl, refl, refl, refl, refl, refl)
 
--- the loosest expressions
-loose_tell : (c : Context) →
-    Tells (ExpressionRow c)
-    × Tells (AssignmentRow c)
-    × Tells (AndRow c)
-    × Tells (BitOrRow c)
-    × Tells (ElementRow c)
+-- the loosest expressions, and levels of operators: each alone, since each is computed at length
+expression_tells : (c : Context) → Tells (ExpressionRow c)
 unfolding rules_on_rows holds_everywhere
-loose_tell c = (refl, refl, refl, refl, refl)
+expression_tells c = refl
 
--- levels of operators
-levels_tell : (c : Context) →
-    Tells (BitXorRow c)
-    × Tells (BitAndRow c)
-    × Tells (EqualityRow c)
-    × Tells (RelationRow c)
-    × Tells (ShiftRow c)
-    × Tells (SumRow c)
-    × Tells (ProductRow c)
-    × Tells (PowerRow c)
-    × Tells (UnaryRow c)
-    × Tells (RightRow c)
+assignment_tells : (c : Context) → Tells (AssignmentRow c)
 unfolding rules_on_rows holds_everywhere
-levels_tell c = (refl, refl, refl, refl, refl, refl, refl, refl, refl, refl)
+assignment_tells c = refl
+
+and_tells : (c : Context) → Tells (AndRow c)
+unfolding rules_on_rows holds_everywhere
+and_tells c = refl
+
+bit_or_tells : (c : Context) → Tells (BitOrRow c)
+unfolding rules_on_rows holds_everywhere
+bit_or_tells c = refl
+
+element_tells : (c : Context) → Tells (ElementRow c)
+unfolding rules_on_rows holds_everywhere
+element_tells c = refl
+
+bit_xor_tells : (c : Context) → Tells (BitXorRow c)
+unfolding rules_on_rows holds_everywhere
+bit_xor_tells c = refl
+
+bit_and_tells : (c : Context) → Tells (BitAndRow c)
+unfolding rules_on_rows holds_everywhere
+bit_and_tells c = refl
+
+equality_tells : (c : Context) → Tells (EqualityRow c)
+unfolding rules_on_rows holds_everywhere
+equality_tells c = refl
+
+relation_tells : (c : Context) → Tells (RelationRow c)
+unfolding rules_on_rows holds_everywhere
+relation_tells c = refl
+
+shift_tells : (c : Context) → Tells (ShiftRow c)
+unfolding rules_on_rows holds_everywhere
+shift_tells c = refl
+
+sum_tells : (c : Context) → Tells (SumRow c)
+unfolding rules_on_rows holds_everywhere
+sum_tells c = refl
+
+product_tells : (c : Context) → Tells (ProductRow c)
+unfolding rules_on_rows holds_everywhere
+product_tells c = refl
+
+power_tells : (c : Context) → Tells (PowerRow c)
+unfolding rules_on_rows holds_everywhere
+power_tells c = refl
+
+unary_tells : (c : Context) → Tells (UnaryRow c)
+unfolding rules_on_rows holds_everywhere
+unary_tells c = refl
+
+right_tells : (c : Context) → Tells (RightRow c)
+unfolding rules_on_rows holds_everywhere
+right_tells c = refl
 
 -- chains and their parts
 chains_tell : (c : Context) →
@@ -341,26 +377,26 @@ tests_tell (MemberRow c) = (members_tell c).4
 tests_tell (PropertyRow c) = (members_tell c).5
 tests_tell (KeyRow true c) = (members_tell c).6
 tests_tell (KeyRow false c) = (members_tell c).7
-tests_tell (ExpressionRow c) = (loose_tell c).0
-tests_tell (AssignmentRow c) = (loose_tell c).1
-tests_tell (AndRow c) = (loose_tell c).2
-tests_tell (BitOrRow c) = (loose_tell c).3
-tests_tell (BitXorRow c) = (levels_tell c).0
-tests_tell (BitAndRow c) = (levels_tell c).1
-tests_tell (EqualityRow c) = (levels_tell c).2
-tests_tell (RelationRow c) = (levels_tell c).3
-tests_tell (ShiftRow c) = (levels_tell c).4
-tests_tell (SumRow c) = (levels_tell c).5
-tests_tell (ProductRow c) = (levels_tell c).6
-tests_tell (PowerRow c) = (levels_tell c).7
-tests_tell (UnaryRow c) = (levels_tell c).8
-tests_tell (RightRow c) = (levels_tell c).9
+tests_tell (ExpressionRow c) = expression_tells c
+tests_tell (AssignmentRow c) = assignment_tells c
+tests_tell (AndRow c) = and_tells c
+tests_tell (BitOrRow c) = bit_or_tells c
+tests_tell (BitXorRow c) = bit_xor_tells c
+tests_tell (BitAndRow c) = bit_and_tells c
+tests_tell (EqualityRow c) = equality_tells c
+tests_tell (RelationRow c) = relation_tells c
+tests_tell (ShiftRow c) = shift_tells c
+tests_tell (SumRow c) = sum_tells c
+tests_tell (ProductRow c) = product_tells c
+tests_tell (PowerRow c) = power_tells c
+tests_tell (UnaryRow c) = unary_tells c
+tests_tell (RightRow c) = right_tells c
 tests_tell (ChainRow c) = (chains_tell c).0
 tests_tell (CalleeRow c) = (chains_tell c).1
 tests_tell (PostRow c) = (chains_tell c).2
 tests_tell (MemberPostRow c) = (chains_tell c).3
 tests_tell (ArgumentsRow c) = (chains_tell c).4
-tests_tell (ElementRow c) = (loose_tell c).4
+tests_tell (ElementRow c) = element_tells c
 tests_tell (TemplateRow c) = (chains_tell c).5
 tests_tell (TypesRow r) =
     each_holds (λ l. holds_everywhere (rule_tells (sets l) (rule l (TypesRow r)) (follow (TypesRow r))))

@@ -1,6 +1,6 @@
 ghost use Rattle.std.specs.Prelude.{◌≡◌};
 ghost use Rattle.grammar_theory.specs.declared.error.SyntaxError.TheVariants.{OutOfMemory};
-ghost use Rattle.grammar_theory.specs.Languages.{typed};
+ghost use Rattle.grammar_theory.specs.Languages.{typed, elements, asserts, decorates};
 
 use std::alloc::AllocError;
 use std::error::Error;
@@ -13,6 +13,12 @@ pub enum Lang {
     Es,
     /// ECMAScript with the types and declarations of TypeScript.
     Typescript,
+    /// ECMAScript with elements of JSX and decorators.
+    Jsx,
+    /// TypeScript with elements of JSX and decorators.
+    Tsx,
+    /// TypeScript with decorators, and with assertions that stand before what is asserted.
+    Wide,
 }
 
 impl Lang {
@@ -20,7 +26,28 @@ impl Lang {
     pub fn is_typed(self) -> bool
         ensures { result ≡ typed self }
     {
-        matches!(self, Lang::Typescript)
+        matches!(self, Lang::Typescript | Lang::Tsx | Lang::Wide)
+    }
+
+    /// Whether the language has elements of JSX.
+    pub fn has_elements(self) -> bool
+        ensures { result ≡ elements self }
+    {
+        matches!(self, Lang::Jsx | Lang::Tsx)
+    }
+
+    /// Whether a type in angle brackets before an operand asserts it.
+    pub fn has_assertions(self) -> bool
+        ensures { result ≡ asserts self }
+    {
+        matches!(self, Lang::Wide)
+    }
+
+    /// Whether classes, their members and parameters may have decorators.
+    pub fn has_decorators(self) -> bool
+        ensures { result ≡ decorates self }
+    {
+        matches!(self, Lang::Jsx | Lang::Tsx | Lang::Wide)
     }
 }
 

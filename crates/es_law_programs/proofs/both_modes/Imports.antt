@@ -38,7 +38,10 @@ unfolding rule statement block keyword_statement condition_in for_ for_each for_
     plain_declaration function async_function class_ class_form abstract_class enum_ declare typed_declaration interface
     alias is_namespace_word namespace module_namespace global other_statement expression_statement is_name
 statement_may lang.Es c h = clash h
+statement_may lang.Jsx c h = clash h
 statement_may lang.Typescript c h = clash h
+statement_may lang.Tsx c h = clash h
+statement_may lang.Wide c h = clash h
 
 variables_may : (l : Lang) (c : Context) → rule_may (rule l (VariablesRow c)) ≡ true → ⊥
 unfolding rule variables is_variable_word
@@ -59,7 +62,10 @@ unfolding rule expression assignment plain_arrow async_arrow arrow_in parameters
     array_literal object_literal function async_function class_ class_form named_primary abstract_class name_expression
     template type_parameters_in is_name is_numeric is_prefix is_update is_literal_word
 expression_may lang.Es c h = clash h
+expression_may lang.Jsx c h = clash h
 expression_may lang.Typescript c h = clash h
+expression_may lang.Tsx c h = clash h
+expression_may lang.Wide c h = clash h
 
 parameters_may : (l : Lang) → rule_may (rule l (TypesRow types.TypeParametersRow)) ≡ true → ⊥
 unfolding rule type_rule type_parameters

@@ -36,9 +36,18 @@ module _ (K : List Key) (Below : Row → Plain NodeKind → ℕ → ℕ → Type
   import_eases lang.Es c =
       picked_in (same_rule K Below each)
       (chosen_in (same_rule K Below each) (statement_eases K Below each lang.Es c))
+  import_eases lang.Jsx c =
+      picked_in (same_rule K Below each)
+      (chosen_in (same_rule K Below each) (statement_eases K Below each lang.Jsx c))
   import_eases lang.Typescript c =
       picked_in (same_rule K Below each)
       (chosen_in (same_rule K Below each) (statement_eases K Below each lang.Typescript c))
+  import_eases lang.Tsx c =
+      picked_in (same_rule K Below each)
+      (chosen_in (same_rule K Below each) (statement_eases K Below each lang.Tsx c))
+  import_eases lang.Wide c =
+      picked_in (same_rule K Below each)
+      (chosen_in (same_rule K Below each) (statement_eases K Below each lang.Wide c))
 
   pub item_eases : (l : Lang) (c : Context) → RuleEases (item l c) (item l (both c))
   item_eases l c = import_eases l c
@@ -54,7 +63,10 @@ module _ (K : List Key) (Below : Row → Plain NodeKind → ℕ → ℕ → Type
       body_in heritage_in implements_in references_in abstract_class type_parameters_in enum_ default_in type_members
       interface alias items_in namespace module_namespace global typed_declaration declare
   declaration_eases lang.Es c = same_rule K Below each
+  declaration_eases lang.Jsx c = same_rule K Below each
   declaration_eases lang.Typescript c = same_rule K Below each
+  declaration_eases lang.Tsx c = same_rule K Below each
+  declaration_eases lang.Wide c = same_rule K Below each
 
   pub declared_eases : (l : Lang) (c : Context) → RuleEases (declared l c) (declared l (both c))
   unfolding declared ended function async_function class_ class_form class_name_in name_in star_in
@@ -62,6 +74,9 @@ module _ (K : List Key) (Below : Row → Plain NodeKind → ℕ → ℕ → Type
       interface alias items_in namespace module_namespace global typed_declaration
   declared_eases lang.Es c = same_rule K Below each
   declared_eases lang.Typescript c = same_rule K Below each
+  declared_eases lang.Jsx c = same_rule K Below each
+  declared_eases lang.Tsx c = same_rule K Below each
+  declared_eases lang.Wide c = same_rule K Below each
 
   pub variables_eases : (c : Context) → RuleEases (variables c) (variables (both c))
   unfolding variables declarators
@@ -71,8 +86,14 @@ module _ (K : List Key) (Below : Row → Plain NodeKind → ℕ → ℕ → Type
   unfolding declarator annotation_in
   declarator_eases lang.Es c =
       wrapped_in (pattern_eases K Below each lang.Es false (outside c)) (same_form K Below each)
+  declarator_eases lang.Jsx c =
+      wrapped_in (pattern_eases K Below each lang.Jsx false (outside c)) (same_form K Below each)
   declarator_eases lang.Typescript c =
       picked_in (same_rule K Below each) (pattern_eases K Below each lang.Typescript false (outside c))
+  declarator_eases lang.Tsx c =
+      picked_in (same_rule K Below each) (pattern_eases K Below each lang.Tsx false (outside c))
+  declarator_eases lang.Wide c =
+      picked_in (same_rule K Below each) (pattern_eases K Below each lang.Wide false (outside c))
 
   -- ---- functions and classes
 
@@ -80,36 +101,63 @@ module _ (K : List Key) (Below : Row → Plain NodeKind → ℕ → ℕ → Type
       → RuleEases (any_function l named c) (any_function l named (both c))
   unfolding any_function function async_function star_in name_in body_in ended
   function_eases lang.Es true c = same_rule K Below each
+  function_eases lang.Jsx true c = same_rule K Below each
   function_eases lang.Es false c = same_rule K Below each
+  function_eases lang.Jsx false c = same_rule K Below each
   function_eases lang.Typescript true c = same_rule K Below each
+  function_eases lang.Tsx true c = same_rule K Below each
+  function_eases lang.Wide true c = same_rule K Below each
   function_eases lang.Typescript false c = same_rule K Below each
+  function_eases lang.Tsx false c = same_rule K Below each
+  function_eases lang.Wide false c = same_rule K Below each
 
   pub class_eases : (l : Lang) (named : Bool) (c : Context)
       → RuleEases (any_class l named c) (any_class l named (both c))
   unfolding any_class class_ abstract_class class_form class_name_in name_in type_parameters_in heritage_in
       implements_in references_in
   class_eases lang.Es true c = same_rule K Below each
+  class_eases lang.Jsx true c = same_rule K Below each
   class_eases lang.Es false c = same_rule K Below each
+  class_eases lang.Jsx false c = same_rule K Below each
   class_eases lang.Typescript true c = same_rule K Below each
+  class_eases lang.Tsx true c = same_rule K Below each
+  class_eases lang.Wide true c = same_rule K Below each
   class_eases lang.Typescript false c = same_rule K Below each
+  class_eases lang.Tsx false c = same_rule K Below each
+  class_eases lang.Wide false c = same_rule K Below each
 
   pub signature_eases : (l : Lang) (c : Context) → RuleEases (signature l c) (signature l (both c))
   unfolding signature type_parameters_in result_in
   signature_eases lang.Es c = same_rule K Below each
+  signature_eases lang.Jsx c = same_rule K Below each
   signature_eases lang.Typescript c = same_rule K Below each
+  signature_eases lang.Tsx c = same_rule K Below each
+  signature_eases lang.Wide c = same_rule K Below each
 
   pub parameters_eases : (l : Lang) (c : Context) → RuleEases (parameters l c) (parameters l (both c))
   unfolding parameters rest_in annotation_in
   parameters_eases lang.Es c = same_rule K Below each
+  parameters_eases lang.Jsx c = same_rule K Below each
   parameters_eases lang.Typescript c = same_rule K Below each
+  parameters_eases lang.Tsx c = same_rule K Below each
+  parameters_eases lang.Wide c = same_rule K Below each
 
   this_eases : (l : Lang) (c : Context) → RuleEases (parameter l c) (parameter l (both c))
   unfolding parameter parameter_tail mark_in annotation_in default_in modifiers_in each_once opens_parameter_modifier
   this_eases lang.Es c = wrapped_in (pattern_eases K Below each lang.Es false c) (same_form K Below each)
+  this_eases lang.Jsx c = wrapped_in (pattern_eases K Below each lang.Jsx false c) (same_form K Below each)
   this_eases lang.Typescript c =
       chosen_in (same_rule K Below each)
       (picked_in (same_rule K Below each)
       (picked_in (same_rule K Below each) (pattern_eases K Below each lang.Typescript false c)))
+  this_eases lang.Tsx c =
+      chosen_in (same_rule K Below each)
+      (picked_in (same_rule K Below each)
+      (picked_in (same_rule K Below each) (pattern_eases K Below each lang.Tsx false c)))
+  this_eases lang.Wide c =
+      chosen_in (same_rule K Below each)
+      (picked_in (same_rule K Below each)
+      (picked_in (same_rule K Below each) (pattern_eases K Below each lang.Wide false c)))
 
   pub parameter_eases : (l : Lang) (c : Context) → RuleEases (parameter l c) (parameter l (both c))
   parameter_eases l c = this_eases l c
@@ -122,12 +170,18 @@ module _ (K : List Key) (Below : Row → Plain NodeKind → ℕ → ℕ → Type
   unfolding member any_member modified_member index_member marked_in head_in static_in modifiers_in each_once star_in
       class_method_in typed_head_in mark_in body_in ended field_in value_in annotation_in
   member_eases lang.Es c = same_rule K Below each
+  member_eases lang.Jsx c = same_rule K Below each
   member_eases lang.Typescript c = same_rule K Below each
+  member_eases lang.Tsx c = same_rule K Below each
+  member_eases lang.Wide c = same_rule K Below each
 
   pub property_eases : (l : Lang) (c : Context) → RuleEases (property l c) (property l (both c))
   unfolding property method_in typed_head_in star_in
   property_eases lang.Es c = same_rule K Below each
+  property_eases lang.Jsx c = same_rule K Below each
   property_eases lang.Typescript c = same_rule K Below each
+  property_eases lang.Tsx c = same_rule K Below each
+  property_eases lang.Wide c = same_rule K Below each
 
   pub key_eases : (p : Bool) (c : Context) → RuleEases (key p c) (key p (both c))
   unfolding key plain_key
@@ -139,12 +193,18 @@ module _ (K : List Key) (Below : Row → Plain NodeKind → ℕ → ℕ → Type
   pub post_eases : (l : Lang) (c : Context) → RuleEases (post l c) (post l (both c))
   unfolding post optional_post member_post plain_member_post non_null_post type_arguments_in
   post_eases lang.Es c = same_rule K Below each
+  post_eases lang.Jsx c = same_rule K Below each
   post_eases lang.Typescript c = same_rule K Below each
+  post_eases lang.Tsx c = same_rule K Below each
+  post_eases lang.Wide c = same_rule K Below each
 
   pub member_post_eases : (l : Lang) (c : Context) → RuleEases (member_post l c) (member_post l (both c))
   unfolding member_post plain_member_post non_null_post
   member_post_eases lang.Es c = same_rule K Below each
+  member_post_eases lang.Jsx c = same_rule K Below each
   member_post_eases lang.Typescript c = same_rule K Below each
+  member_post_eases lang.Tsx c = same_rule K Below each
+  member_post_eases lang.Wide c = same_rule K Below each
 
   pub arguments_eases : (c : Context) → RuleEases (arguments c) (arguments (both c))
   unfolding arguments

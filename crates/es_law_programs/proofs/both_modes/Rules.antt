@@ -59,14 +59,26 @@ module _ (K : List Key) (Below : Row → Plain NodeKind → ℕ → ℕ → Type
   base_eases lang.Es called c =
       chosen_in (same_rule K Below each)
       (chosen_in (imported_eases called c) (chosen_in (same_rule K Below each) (same_rule K Below each)))
+  base_eases lang.Jsx called c =
+      chosen_in (same_rule K Below each)
+      (chosen_in (imported_eases called c) (chosen_in (same_rule K Below each) (same_rule K Below each)))
   base_eases lang.Typescript called c =
+      chosen_in (same_rule K Below each)
+      (chosen_in (imported_eases called c) (chosen_in (same_rule K Below each) (same_rule K Below each)))
+  base_eases lang.Tsx called c =
+      chosen_in (same_rule K Below each)
+      (chosen_in (imported_eases called c) (chosen_in (same_rule K Below each) (same_rule K Below each)))
+  base_eases lang.Wide called c =
       chosen_in (same_rule K Below each)
       (chosen_in (imported_eases called c) (chosen_in (same_rule K Below each) (same_rule K Below each)))
 
   pub chain_eases : (l : Lang) (c : Context) → RuleEases (chain l c) (chain l (both c))
   unfolding chain
   chain_eases lang.Es c = wrapped_in (base_eases lang.Es true c) (same_form K Below each)
+  chain_eases lang.Jsx c = wrapped_in (base_eases lang.Jsx true c) (same_form K Below each)
   chain_eases lang.Typescript c = wrapped_in (base_eases lang.Typescript true c) (same_form K Below each)
+  chain_eases lang.Tsx c = wrapped_in (base_eases lang.Tsx true c) (same_form K Below each)
+  chain_eases lang.Wide c = wrapped_in (base_eases lang.Wide true c) (same_form K Below each)
 
   pub callee_eases : (l : Lang) (c : Context) → RuleEases (callee l c) (callee l (both c))
   unfolding callee
@@ -89,7 +101,10 @@ module _ (K : List Key) (Below : Row → Plain NodeKind → ℕ → ℕ → Type
   no_power_eases : (l : Lang) → Eases (no_power l) (no_power l)
   unfolding no_power
   no_power_eases lang.Es = same_form K Below each
+  no_power_eases lang.Jsx = same_form K Below each
   no_power_eases lang.Typescript = same_form K Below each
+  no_power_eases lang.Tsx = same_form K Below each
+  no_power_eases lang.Wide = same_form K Below each
 
   prefix_eases : (l : Lang) (c : Context) → RuleEases (prefix c (no_power l)) (prefix (both c) (no_power l))
   unfolding prefix
@@ -133,9 +148,17 @@ module _ (K : List Key) (Below : Row → Plain NodeKind → ℕ → ℕ → Type
   unfolding relation private_in may_test opens_comparison comparison_in asserted_or asserted tight_in
   relation_eases lang.Es c =
       wrapped_in (chosen_in (same_rule K Below each) (shift_eases lang.Es c)) (same_form K Below each)
+  relation_eases lang.Jsx c =
+      wrapped_in (chosen_in (same_rule K Below each) (shift_eases lang.Jsx c)) (same_form K Below each)
   relation_eases lang.Typescript c =
       shifted_eases lang.Typescript c _ _
       (wrapped_in (chosen_in (same_rule K Below each) (shift_eases lang.Typescript c)) (same_form K Below each))
+  relation_eases lang.Tsx c =
+      shifted_eases lang.Tsx c _ _
+      (wrapped_in (chosen_in (same_rule K Below each) (shift_eases lang.Tsx c)) (same_form K Below each))
+  relation_eases lang.Wide c =
+      shifted_eases lang.Wide c _ _
+      (wrapped_in (chosen_in (same_rule K Below each) (shift_eases lang.Wide c)) (same_form K Below each))
 
   pub equality_eases : (l : Lang) (c : Context) → RuleEases (equality l c) (equality l (both c))
   unfolding equality
@@ -172,7 +195,10 @@ module _ (K : List Key) (Below : Row → Plain NodeKind → ℕ → ℕ → Type
   conditional_eases : (l : Lang) (c : Context) → RuleEases (conditional l c) (conditional l (both c))
   unfolding conditional
   conditional_eases lang.Es c = wrapped_in (binary_eases lang.Es c) (same_form K Below each)
+  conditional_eases lang.Jsx c = wrapped_in (binary_eases lang.Jsx c) (same_form K Below each)
   conditional_eases lang.Typescript c = wrapped_in (binary_eases lang.Typescript c) (same_form K Below each)
+  conditional_eases lang.Tsx c = wrapped_in (binary_eases lang.Tsx c) (same_form K Below each)
+  conditional_eases lang.Wide c = wrapped_in (binary_eases lang.Wide c) (same_form K Below each)
 
   pub assignment_eases : (l : Lang) (c : Context) → RuleEases (assignment l c) (assignment l (both c))
   unfolding assignment opens_any_arrow opens_arrow_here opens_async_here opens_parameters_of_arrow opens_generic_async
@@ -181,9 +207,18 @@ module _ (K : List Key) (Below : Row → Plain NodeKind → ℕ → ℕ → Type
   assignment_eases lang.Es c =
       picked_in (same_rule K Below each) (chosen_in (same_rule K Below each)
       (picked_in (same_rule K Below each) (wrapped_in (conditional_eases lang.Es c) (same_form K Below each))))
+  assignment_eases lang.Jsx c =
+      picked_in (same_rule K Below each) (chosen_in (same_rule K Below each)
+      (picked_in (same_rule K Below each) (wrapped_in (conditional_eases lang.Jsx c) (same_form K Below each))))
   assignment_eases lang.Typescript c =
       picked_in (same_rule K Below each) (chosen_in (same_rule K Below each)
       (picked_in (same_rule K Below each) (wrapped_in (conditional_eases lang.Typescript c) (same_form K Below each))))
+  assignment_eases lang.Tsx c =
+      picked_in (same_rule K Below each) (chosen_in (same_rule K Below each)
+      (picked_in (same_rule K Below each) (wrapped_in (conditional_eases lang.Tsx c) (same_form K Below each))))
+  assignment_eases lang.Wide c =
+      picked_in (same_rule K Below each) (chosen_in (same_rule K Below each)
+      (picked_in (same_rule K Below each) (wrapped_in (conditional_eases lang.Wide c) (same_form K Below each))))
 
   pub expression_eases : (l : Lang) (c : Context) → RuleEases (expression l c) (expression l (both c))
   unfolding expression
@@ -198,7 +233,10 @@ module _ (K : List Key) (Below : Row → Plain NodeKind → ℕ → ℕ → Type
   target_eases : (l : Lang) (c : Context) → RuleEases (target l c) (target l (both c))
   unfolding target asserted_or asserted no_form
   target_eases lang.Es c = as_in (chain_eases lang.Es c)
+  target_eases lang.Jsx c = as_in (chain_eases lang.Jsx c)
   target_eases lang.Typescript c = as_in (wrapped_in (chain_eases lang.Typescript c) (same_form K Below each))
+  target_eases lang.Tsx c = as_in (wrapped_in (chain_eases lang.Tsx c) (same_form K Below each))
+  target_eases lang.Wide c = as_in (wrapped_in (chain_eases lang.Wide c) (same_form K Below each))
 
   bracket_eases : (t : Bool) (c : Context) → RuleEases (bracket_pattern t c) (bracket_pattern t (both c))
   unfolding bracket_pattern array_pattern object_pattern
@@ -242,10 +280,22 @@ module _ (K : List Key) (Below : Row → Plain NodeKind → ℕ → ℕ → Type
       chosen_in (same_rule K Below each)
       (picked_in (made (using_in_eases c _ _ (same_form K Below each)))
       (picked_in (pattern_eases lang.Es true c) (target_eases lang.Es (in_head c))))
+  head_eases lang.Jsx c =
+      chosen_in (same_rule K Below each)
+      (picked_in (made (using_in_eases c _ _ (same_form K Below each)))
+      (picked_in (pattern_eases lang.Jsx true c) (target_eases lang.Jsx (in_head c))))
   head_eases lang.Typescript c =
       chosen_in (same_rule K Below each)
       (picked_in (made (using_in_eases c _ _ (same_form K Below each)))
       (picked_in (pattern_eases lang.Typescript true c) (target_eases lang.Typescript (in_head c))))
+  head_eases lang.Tsx c =
+      chosen_in (same_rule K Below each)
+      (picked_in (made (using_in_eases c _ _ (same_form K Below each)))
+      (picked_in (pattern_eases lang.Tsx true c) (target_eases lang.Tsx (in_head c))))
+  head_eases lang.Wide c =
+      chosen_in (same_rule K Below each)
+      (picked_in (made (using_in_eases c _ _ (same_form K Below each)))
+      (picked_in (pattern_eases lang.Wide true c) (target_eases lang.Wide (in_head c))))
 
   for_await_eases : (c : Context) → RuleEases (for_await c) (for_await (both c))
   unfolding for_await may_await
@@ -266,12 +316,18 @@ module _ (K : List Key) (Below : Row → Plain NodeKind → ℕ → ℕ → Type
   switch_eases : (l : Lang) (c : Context) → RuleEases (switch_ l c) (switch_ l (both c))
   unfolding switch_ case_in condition_in
   switch_eases lang.Es c = same_rule K Below each
+  switch_eases lang.Jsx c = same_rule K Below each
   switch_eases lang.Typescript c = same_rule K Below each
+  switch_eases lang.Tsx c = same_rule K Below each
+  switch_eases lang.Wide c = same_rule K Below each
 
   try_eases : (l : Lang) (c : Context) → RuleEases (try_ l c) (try_ l (both c))
   unfolding try_ finally_in annotation_in
   try_eases lang.Es c = same_rule K Below each
+  try_eases lang.Jsx c = same_rule K Below each
   try_eases lang.Typescript c = same_rule K Below each
+  try_eases lang.Tsx c = same_rule K Below each
+  try_eases lang.Wide c = same_rule K Below each
 
   with_eases : (c : Context) (l : Lang) (a b : Production Row NodeKind) → RuleEases a b
       → RuleEases (keyword_statement l c a) (keyword_statement l (both c) b)
@@ -297,7 +353,10 @@ module _ (K : List Key) (Below : Row → Plain NodeKind → ℕ → ℕ → Type
       type_parameters_in enum_ default_in type_members interface alias items_in namespace module_namespace global
       typed_declaration declare
   declared_eases lang.Es c = same_rule K Below each
+  declared_eases lang.Jsx c = same_rule K Below each
   declared_eases lang.Typescript c = same_rule K Below each
+  declared_eases lang.Tsx c = same_rule K Below each
+  declared_eases lang.Wide c = same_rule K Below each
 
   pub statement_eases : (l : Lang) (c : Context) → RuleEases (statement l c) (statement l (both c))
   unfolding statement block

@@ -1,7 +1,7 @@
 -- What the trees of each row may be read as.
-use Rattle.std.specs.Prelude.{Bool, false, ◌||◌}
+use Rattle.std.specs.Prelude.{Bool, false, ◌&&◌, ◌||◌, if◌then◌else◌}
 use Rattle.grammar_theory.specs.declared.error.Lang.{Lang}
-use Rattle.grammar_theory.specs.declared.error.Lang.TheVariants as lang
+use Rattle.grammar_theory.specs.Languages.{typed}
 use Rattle.es_grammar.specs.declared.rows.Row.{Row}
 use Rattle.es_grammar.specs.declared.rows.Row.TheVariants.{ModuleRow, ScriptRow, ItemRow, ClauseRow, NamedRow, ImportSpecifierRow, ExportSpecifierRow, AttributesRow, EntityRow, StatementRow, BlockRow, DeclarationRow, DeclaredRow, VariablesRow, DeclaratorRow, UsingRow, HeadRow, HeadPatternRow, SignatureRow, ParametersRow, ParameterRow, PatternRow, InnerPatternRow, PatternElementRow, PatternPropertyRow, FunctionRow, ClassRow, MemberRow, PropertyRow, KeyRow, PostRow, MemberPostRow, ArgumentsRow, TypesRow}
 use Rattle.es_grammar.specs.declared.rows.NodeKind.{NodeKind}
@@ -44,8 +44,7 @@ first_use l (KeyRow p c) = as_key
 first_use l (PostRow c) = as_post
 first_use l (MemberPostRow c) = as_post
 first_use l (ArgumentsRow c) = as_args
-first_use lang.Es (SignatureRow c) = as_params
-first_use lang.Typescript (SignatureRow c) = as_signature
+first_use l (SignatureRow c) = if typed l then as_signature else as_params
 first_use l (TypesRow (types.TypeRow t)) = as_type
 first_use l (TypesRow types.IntersectionRow) = as_type
 first_use l (TypesRow types.OperandRow) = as_type
@@ -80,8 +79,9 @@ second_use l r = first_use l r
 
 -- the trees of the row may be read so; types, and what stands behind `declare`, are rows of TypeScript alone
 abbrev pub yields : Lang → Row → Use → Bool
-yields lang.Es (DeclaredRow c) u = false
-yields lang.Es (TypesRow r) u = false
+yields l (DeclaredRow c) u =
+    typed l && (same_use u (first_use l (DeclaredRow c)) || same_use u (second_use l (DeclaredRow c)))
+yields l (TypesRow r) u = typed l && (same_use u (first_use l (TypesRow r)) || same_use u (second_use l (TypesRow r)))
 yields l r u = same_use u (first_use l r) || same_use u (second_use l r)
 
 -- what stands behind a type's name is no further node of the same alternative

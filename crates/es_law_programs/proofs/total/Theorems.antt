@@ -5,14 +5,14 @@ use Rattle.es_token.specs.declared.token.Token.{Token}
 use Rattle.grammar_theory.specs.Tells.{implies}
 use Rattle.grammar_theory.proofs.FreeLemmas.{holds_then}
 use Rattle.grammar_theory.specs.declared.error.Lang.{Lang}
-use Rattle.grammar_theory.specs.declared.error.Lang.TheVariants as lang
+use Rattle.grammar_theory.specs.Languages.{typed}
 use Rattle.grammar_theory.specs.declared.error.Mode.{Mode}
 use Rattle.grammar_theory.specs.declared.error.Mode.TheVariants as mode
 use Rattle.grammar_theory.specs.Key.{seen, keys_of}
 use Rattle.grammar_theory.specs.Plain.{Plain}
 use Rattle.grammar_theory.specs.Productions.{Predict, by_lookahead, greedy, by_predicate}
 use Rattle.grammar_theory.specs.Fits.{free, chosen, Present, Shape, most_nodes}
-use Rattle.grammar_theory.proofs.OutLemmas.{clash}
+use Rattle.grammar_theory.proofs.Progress.{both_hold}
 use Rattle.es_ast.specs.declared.ast.Program.{Program}
 use Rattle.es_grammar.specs.declared.rows.Row.{Row}
 use Rattle.es_grammar.specs.declared.rows.Row.TheVariants.{DeclaredRow, TypesRow}
@@ -51,8 +51,10 @@ second_ok l r =
 -- what a row gives is its first or its second use
 yields_one : (l : Lang) (r : Row) (u : Use) → yields l r u ≡ true
     → same_use u (first_use l r) || same_use u (second_use l r) ≡ true
-yields_one lang.Es (DeclaredRow c) u e = clash e
-yields_one lang.Es (TypesRow r) u e = clash e
+yields_one l (DeclaredRow c) u e =
+    (both_hold (typed l) (same_use u (first_use l (DeclaredRow c)) || same_use u (second_use l (DeclaredRow c))) e).1
+yields_one l (TypesRow r) u e =
+    (both_hold (typed l) (same_use u (first_use l (TypesRow r)) || same_use u (second_use l (TypesRow r))) e).1
 yields_one l r u e = e
 
 claimed : (l : Lang) (r : Row) (u : Use) → yields l r u ≡ true → rule_ok (yields l) needs (shut r) (rule l r) u ≡ true
@@ -70,10 +72,8 @@ claimed l r u e =
         subst Q (sym same) (ok (subst P same e))
 
 program_yields : (l : Lang) (m : Mode) → yields l (program_row m) as_program ≡ true
-program_yields lang.Es mode.Module = refl
-program_yields lang.Es mode.Script = refl
-program_yields lang.Typescript mode.Module = refl
-program_yields lang.Typescript mode.Script = refl
+program_yields l mode.Module = refl
+program_yields l mode.Script = refl
 
 -- read with its tests obeyed, a turn is told by its test
 asks : (ts : List Token) (c : Predict) (at : ℕ) → Present chosen c (keys_of ts) at
