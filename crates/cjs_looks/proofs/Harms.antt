@@ -197,6 +197,7 @@ module _ (x : List ℕ) (ts : List Token) (r : Range) where
   operator_harms (o.PatternAssignment left right) = by_assigning _ (odd.is_pattern_assigned x ts r _ _)
   operator_harms (o.Yield arg) = by_nothing _ (odd.is_yield x ts r _)
   operator_harms (o.TypedBinary left turn) = by_nothing _ (odd.is_turned x ts r _ _ _)
+  operator_harms (o.TypeAssertion type_ arg) = by_nothing _ (odd.is_asserted x ts r _ _)
   operator_harms (o.Sequence first second others) = sequence_harms _ _ _
   operator_harms o.Broken = record { told = tt }
 

@@ -203,6 +203,10 @@ module _ (x : List ℕ) (ts : List Token) (r : Range) where
   unfolding operator.turned
   is_turned from a v = all_given N a (λ a. turned ts r a from v (part v 1))
 
+  pub is_asserted : (type_ : Value) (a : Option Expr) → All N (operator.asserted r type_ a)
+  unfolding operator.asserted
+  is_asserted type_ a = all_given N a (λ a. asserted r a k.AsWord (part type_ 0))
+
   -- an assignment, by whatever operator
   pub is_assigned : (from to : ℕ) (a b : Option Expr) → All IsAssigning (operator.assigned ts r from to a b)
   unfolding operator.assigned

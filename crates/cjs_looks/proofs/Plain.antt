@@ -75,6 +75,9 @@ module _ (x : List ℕ) (ts : List Token) (r : Range) where
   pub is_turned : (from : ℕ) (a : Option Expr) (v : Value) → All P (operator.turned ts r from a v)
   is_turned from a v = others.all_plain _ (odd.is_turned x ts r from a v)
 
+  pub is_asserted : (type_ : Value) (a : Option Expr) → All P (operator.asserted r type_ a)
+  is_asserted type_ a = others.all_plain _ (odd.is_asserted x ts r type_ a)
+
   pub is_sequence : (a b : Option Expr) (v : Value)
       → All (IsSequence a b (turns (λ turn. expr_at turn 0) v)) (operator.sequence r a b v)
   unfolding operator.sequence

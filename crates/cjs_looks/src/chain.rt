@@ -34,7 +34,7 @@ pub fn kind_at<'a>(text: &str, tokens: &[Token], it: &Item<'a>) -> Option<Kind<'
     }
 }
 
-#[tactic(auto, using(crate::proofs::Plain::is_prefix, crate::proofs::Plain::is_postfix, crate::proofs::Plain::is_sign, crate::proofs::Plain::is_await, crate::proofs::Plain::is_joined, crate::proofs::Plain::is_private_in, crate::proofs::Plain::is_conditional, crate::proofs::Plain::is_yield, crate::proofs::Plain::is_turned, crate::proofs::Plain::is_sequence, crate::proofs::Assignments::is_pattern))]
+#[tactic(auto, using(crate::proofs::Plain::is_prefix, crate::proofs::Plain::is_postfix, crate::proofs::Plain::is_sign, crate::proofs::Plain::is_await, crate::proofs::Plain::is_joined, crate::proofs::Plain::is_private_in, crate::proofs::Plain::is_conditional, crate::proofs::Plain::is_yield, crate::proofs::Plain::is_turned, crate::proofs::Plain::is_asserted, crate::proofs::Plain::is_sequence, crate::proofs::Assignments::is_pattern))]
 #[cycle(looks)]
 fn operator_kind<'a>(text: &str, tokens: &[Token], it: &Item<'a>) -> Option<Kind<'a>>
     ensures { IfSome result (λ kind. IsKind text.now tokens.now kind (expr_in (valued text.now tokens.now it.now))) }
@@ -51,6 +51,7 @@ fn operator_kind<'a>(text: &str, tokens: &[Token], it: &Item<'a>) -> Option<Kind
         Some(Operator::PatternAssignment { left: _, right }) => Some(Kind::Assigned(right)),
         Some(Operator::Yield(_)) => Some(Kind::Plain(Look::Other)),
         Some(Operator::TypedBinary { .. }) => Some(Kind::Plain(Look::Other)),
+        Some(Operator::TypeAssertion { .. }) => Some(Kind::Plain(Look::Other)),
         Some(
             Operator::Sequence {
                 first,

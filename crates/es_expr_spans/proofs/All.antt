@@ -88,6 +88,8 @@ pub record Each (P : NodeKind → Expr → Type 0) (r : Range) : Type 0 where
   pub abstract_class : (c : Class) → (out-Class c).span ≡ r → P l.AbstractClass (vExpr.Class c)
   pub typed_new : (callee : Expr) (type_args : Option TsPart) (has_args : Bool) (args : List Expr) → P l.TypedNew
       (vExpr.New callee type_args has_args args r)
+  pub type_assertion_const : (e : Expr) → P l.TypeAssertion (vExpr.TsConstAssertion e r)
+  pub type_assertion_as : (e : Expr) (ty : Option TsPart) → P l.TypeAssertion (vExpr.TsAs e ty r)
   pub typed_binary_const : (e : Expr) → P l.TypedBinary (vExpr.TsConstAssertion e r)
   pub typed_binary_as : (e : Expr) (ty : Option TsPart) → P l.TypedBinary (vExpr.TsAs e ty r)
   pub typed_binary_satisfies : (e : Expr) (ty : Option TsPart) → P l.TypedBinary (vExpr.TsSatisfies e ty r)
@@ -192,11 +194,13 @@ module _ (P : NodeKind → Expr → Type 0) (x : List ℕ) (ts : List Token) (r 
       (of_branch P label l.TypedNew (forms.typed_new (P l.TypedNew) x ts r each.typed_new (held x ts es))
       (of_branch P label l.TypedBinary (forms.typed_binary (P l.TypedBinary) x ts r each.typed_binary_const
       each.typed_binary_as each.typed_binary_satisfies each.typed_binary_binary (held x ts es))
+      (of_branch P label l.TypeAssertion (forms.type_assertion (P l.TypeAssertion) x ts r each.type_assertion_const
+      each.type_assertion_as (held x ts es))
       (of_branch P label l.TypedParenthesizedArrow (forms.typed_arrow (P l.TypedParenthesizedArrow) x ts r
       each.typed_parenthesized_arrow false (held x ts es))
       (of_branch P label l.TypedAsyncParenthesizedArrow (forms.typed_arrow (P l.TypedAsyncParenthesizedArrow) x ts r
       each.typed_async_parenthesized_arrow true (held x ts es))
-      (none (P label))))))))))))))))))))))))))))))))))))))))))))))
+      (none (P label)))))))))))))))))))))))))))))))))))))))))))))))
 
   pub all_forms : (label : NodeKind) (from : ℕ) (es : List Entry)
       → IfSome (expr_of x ts label from r (held x ts es)) (P label)

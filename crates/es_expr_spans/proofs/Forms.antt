@@ -305,6 +305,21 @@ module _ (P : Expr → Type 0) (x : List ℕ) (ts : List Token) (r : Range) wher
   asserted_by e const as_ satisfies kind nil = none P
   asserted_by e const as_ satisfies kind (more v vs) = none P
 
+  -- before an operand: a type or `const`
+  before_by : (e : Expr) → P (vExpr.TsConstAssertion e r) → ((ty : Option TsPart) → P (vExpr.TsAs e ty r)) → (v : Value)
+      → Of P (typed_exprs.asserted_by r e k.AsWord v)
+  before_by e const as_ (token n) = one P const
+  before_by e const as_ (node from to m) = of_mapped P m.ts_type (λ ty. as_ (Some (vPart.TypeAnn ty)))
+  before_by e const as_ absent = none P
+  before_by e const as_ nil = none P
+  before_by e const as_ (more v vs) = none P
+
+  pub type_assertion : ((e : Expr) → P (vExpr.TsConstAssertion e r))
+      → ((e : Expr) (ty : Option TsPart) → P (vExpr.TsAs e ty r)) → (p : Value) → Of P (typed_exprs.type_assertion r p)
+  unfolding typed_exprs.type_assertion
+  type_assertion const as_ p =
+      of_given P (expr_at p 1) (λ e. before_by e (const e) (as_ e) (part (group p 0) 0))
+
   operand : (e : Expr) → ((op : BinaryOp) (right : Expr) → P (vExpr.Bin op e right r)) → (from : ℕ) (g v : Value)
       → Of P (given (binary_between ts from (first_of v)) (λ op. given (expr_at g 1) (λ right.
       Some (vExpr.Bin op e right r))))

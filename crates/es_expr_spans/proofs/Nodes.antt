@@ -120,11 +120,13 @@ module _ (x : List ℕ) (ts : List Token) (r : Range) where
       (of_if (Spans r) (same_label label l.TypedNew) (forms.typed_new (Spans r) x ts r new_ p)
       (of_if (Spans r) (same_label label l.TypedBinary) (forms.typed_binary (Spans r) x ts r (λ e.
       span_TsConstAssertion e r) (λ e ty. span_TsAs e ty r) (λ e ty. span_TsSatisfies e ty r) bin p)
+      (of_if (Spans r) (same_label label l.TypeAssertion) (forms.type_assertion (Spans r) x ts r (λ e.
+      span_TsConstAssertion e r) (λ e ty. span_TsAs e ty r) p)
       (of_if (Spans r) (same_label label l.TypedParenthesizedArrow) (forms.typed_arrow (Spans r) x ts r arrow false
       p)
       (of_if (Spans r) (same_label label l.TypedAsyncParenthesizedArrow) (forms.typed_arrow (Spans r) x ts r arrow
       true p)
-      (none (Spans r))))))))))))))))))))))))))))))))))))))))))))))
+      (none (Spans r)))))))))))))))))))))))))))))))))))))))))))))))
 
 first : (b rest : Bool) → (if b then true else rest) ≡ false → (b ≡ false) × (rest ≡ false)
 first true rest e = let bad : ⊥ = cc in absurd bad

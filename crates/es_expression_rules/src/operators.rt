@@ -1,15 +1,15 @@
 //! Operators, from the tightest to the loosest.
 
 ghost use Rattle.es_expression_rules.specs.Bases.{update_prefix};
-ghost use Rattle.es_grammar.specs.Expressions.{level, private_in, update, prefix, await_, unary, no_power, power, product, sum, shift, comparison_in, right_operand, tight_in, relation, equality, bit_and, bit_xor, bit_or, and_};
+ghost use Rattle.es_grammar.specs.Expressions.{level, private_in, update, prefix, await_, type_assertion, asserted_before, unary, no_power, power, product, sum, shift, comparison_in, right_operand, tight_in, relation, equality, bit_and, bit_xor, bit_or, and_};
 ghost use Rattle.es_shared_rules.specs.predicates.Named.{kinds_of};
 
 use crate::chains::Chain;
 use crate::levels::{Arithmetic, BehindTypes, Bitwise, Comparing, LevelBehind, Related, Shifted};
 use crate::operand::Operand;
-use es_grammar::{Context, NodeKind, Row};
+use es_grammar::{Context, NodeKind, Row, TypeRow};
 use es_rules::{
-    Alt, Both, ByPredicate, Cursor, Done, Grammar, Greedy, IsOfKinds, LeafKind, Make, OfRow, Opt,
+    Alt, Both, ByPredicate, Choose, Cursor, Done, Grammar, Greedy, IsOfKinds, LeafKind, Make, OfRow, Opt,
     Pick, Punct, ReadsBehind, ReadsProduction, ReadsRhs, Rows, Tok, When, Where, Wrap,
 };
 use es_shared_rules::predicates::Lookahead::{Has, Is, Other};
@@ -124,7 +124,70 @@ impl<N: ReadsRhs<Row> + Copy> ReadsProduction<Row> for Await<N> {
     }
 }
 
-/// Unary: an operator and its operand, 'await' Unary, or an update.
+/// '<' (Type | 'const') '>' Unary, and what follows.
+#[derive(Clone, Copy)]
+pub struct TypeAssertion<N>(pub Context, pub N);
+
+impl<N: ReadsRhs<Row> + Copy> ReadsProduction<Row> for TypeAssertion<N> {
+    ghost rule = { λ s. type_assertion s.0 (N.form s.1) };
+
+    #[tactic(auto, unfolding(es_grammar::specs::Expressions::type_assertion))]
+    fn read<T: Rows<Row>>(
+        &self,
+        grammar: &Grammar<'_, T>,
+        cursor: &mut Cursor,
+    ) -> Result<usize, SyntaxError> {
+        Make(
+            NodeKind::TypeAssertion,
+            Punct(
+                TokenKind::Less,
+                Alt(
+                    Is(TokenKind::ConstWord),
+                    Tok(LeafKind::There, Kinds::Only(TokenKind::ConstWord), Done),
+                    OfRow(Row::TypesRow(TypeRow::TypeRow(true)), Done),
+                    Punct(
+                        TokenKind::Greater,
+                        OfRow(
+                            Row::UnaryRow(self.0),
+                            Where(Predicate::NoAssignment, self.1),
+                        ),
+                    ),
+                ),
+            ),
+        )
+        .read(grammar, cursor)
+    }
+}
+
+/// Such an assertion, where the language has it, or another rule.
+#[derive(Clone, Copy)]
+pub struct AssertedBefore<N, A>(pub Lang, pub Context, pub N, pub A);
+
+impl<N: ReadsRhs<Row> + Copy, A: ReadsProduction<Row> + Copy> ReadsProduction<Row>
+    for AssertedBefore<N, A>
+{
+    ghost rule = { λ s. asserted_before s.0 s.1 (N.form s.2) (A.rule s.3) };
+
+    #[inline(always)]
+    fn read<T: Rows<Row>>(
+        &self,
+        grammar: &Grammar<'_, T>,
+        cursor: &mut Cursor,
+    ) -> Result<usize, SyntaxError> {
+        if self.0.has_assertions() {
+            Choose(
+                Is(TokenKind::Less),
+                TypeAssertion(self.1, self.2),
+                self.3,
+            )
+            .read(grammar, cursor)
+        } else {
+            self.3.read(grammar, cursor)
+        }
+    }
+}
+
+/// Unary: an operator and its operand, 'await' Unary, an assertion, or an update.
 #[derive(Clone, Copy)]
 pub struct Unary(pub Lang, pub Context);
 
@@ -144,7 +207,7 @@ impl ReadsProduction<Row> for Unary {
         if tokens.sees(TokenKind::AwaitWord, cursor.at) {
             return Await(self.1, Done).read(grammar, cursor);
         }
-        Update(self.0, self.1).read(grammar, cursor)
+        AssertedBefore(self.0, self.1, Done, Update(self.0, self.1)).read(grammar, cursor)
     }
 }
 
@@ -189,16 +252,21 @@ impl ReadsProduction<Row> for Power {
         if tokens.sees(TokenKind::AwaitWord, cursor.at) {
             return Await(self.1, NoPower(self.0)).read(grammar, cursor);
         }
-        Operand(
-            NodeKind::Binary,
-            Update(self.0, self.1),
-            Greedy(Is(TokenKind::StarStar)),
-            Tok(
-                LeafKind::Kind,
-                Kinds::Only(TokenKind::StarStar),
-                OfRow(
-                    Row::PowerRow(self.1),
-                    When(Other(TokenKind::StarStar), Done),
+        AssertedBefore(
+            self.0,
+            self.1,
+            NoPower(self.0),
+            Operand(
+                NodeKind::Binary,
+                Update(self.0, self.1),
+                Greedy(Is(TokenKind::StarStar)),
+                Tok(
+                    LeafKind::Kind,
+                    Kinds::Only(TokenKind::StarStar),
+                    OfRow(
+                        Row::PowerRow(self.1),
+                        When(Other(TokenKind::StarStar), Done),
+                    ),
                 ),
             ),
         )

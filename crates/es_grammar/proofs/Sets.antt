@@ -3,7 +3,7 @@
 use Rattle.std.specs.Prelude.{Bool, true, false, ◌||◌, if◌then◌else◌}
 use Rattle.es_token.specs.declared.token.TokenKind.TheVariants as k
 use Rattle.grammar_theory.specs.declared.error.Lang.{Lang}
-use Rattle.grammar_theory.specs.Languages.{typed}
+use Rattle.grammar_theory.specs.Languages.{typed, asserts}
 use Rattle.grammar_theory.specs.Key.{TokenTest, is, is_end, is_token, has_kind}
 use Rattle.grammar_theory.specs.Tells.{Sets}
 use Rattle.es_grammar.specs.types.Words.{is_name, is_word, is_name_or_this, is_numeric, begins_key}
@@ -31,8 +31,10 @@ abbrev begins_pattern : TokenTest
 begins_pattern x = has_kind is_name x || (is k.OpenBracket x || is k.OpenBrace x)
 
 -- a token that can begin an operand of an operator
-abbrev begins_operand : TokenTest
-begins_operand x = begins_chain x || (has_kind is_prefix x || (has_kind is_update x || is k.AwaitWord x))
+abbrev begins_operand : Lang → TokenTest
+begins_operand l x =
+    begins_chain x || (has_kind is_prefix x || (has_kind is_update x || (is k.AwaitWord x
+    || (if asserts l then is k.Less x else false))))
 
 -- one in TypeScript alone
 abbrev if_typed : Lang → TokenTest → TokenTest
@@ -119,18 +121,18 @@ first l (KeyRow true c) x = is k.PrivateName x || begins_key x
 first l (KeyRow false c) x = begins_key x
 first l (ExpressionRow c) x = begins_value l x
 first l (AssignmentRow c) x = begins_value l x
-first l (AndRow c) x = begins_operand x || is k.PrivateName x
-first l (BitOrRow c) x = begins_operand x || is k.PrivateName x
-first l (BitXorRow c) x = begins_operand x || is k.PrivateName x
-first l (BitAndRow c) x = begins_operand x || is k.PrivateName x
-first l (EqualityRow c) x = begins_operand x || is k.PrivateName x
-first l (RelationRow c) x = begins_operand x || is k.PrivateName x
-first l (RightRow c) x = begins_operand x
-first l (ShiftRow c) x = begins_operand x
-first l (SumRow c) x = begins_operand x
-first l (ProductRow c) x = begins_operand x
-first l (PowerRow c) x = begins_operand x
-first l (UnaryRow c) x = begins_operand x
+first l (AndRow c) x = begins_operand l x || is k.PrivateName x
+first l (BitOrRow c) x = begins_operand l x || is k.PrivateName x
+first l (BitXorRow c) x = begins_operand l x || is k.PrivateName x
+first l (BitAndRow c) x = begins_operand l x || is k.PrivateName x
+first l (EqualityRow c) x = begins_operand l x || is k.PrivateName x
+first l (RelationRow c) x = begins_operand l x || is k.PrivateName x
+first l (RightRow c) x = begins_operand l x
+first l (ShiftRow c) x = begins_operand l x
+first l (SumRow c) x = begins_operand l x
+first l (ProductRow c) x = begins_operand l x
+first l (PowerRow c) x = begins_operand l x
+first l (UnaryRow c) x = begins_operand l x
 first l (ChainRow c) x = begins_chain x
 first l (CalleeRow c) x = begins_chain x
 first l (PostRow c) x = begins_post x || if_typed l (λ y. opens_non_null y || begins_angle y) x

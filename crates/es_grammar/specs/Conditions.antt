@@ -7,7 +7,7 @@ use Rattle.grammar_theory.specs.declared.error.Mode.TheVariants as mode
 use Rattle.grammar_theory.specs.Key.{Key}
 use Rattle.grammar_theory.specs.Plain.{Plain, node, nil, cons, mark, turn, via}
 use Rattle.grammar_theory.specs.Fits.{free, Shape}
-use Rattle.es_grammar.specs.declared.rows.NodeKind.TheVariants.{Assignment, Binary, Chain, IndexPost, MemberPost, Name, NonNullPost, Parenthesized, TypedBinary, UpdatePostfix, UpdatePrefix}
+use Rattle.es_grammar.specs.declared.rows.NodeKind.TheVariants.{Assignment, Binary, Chain, IndexPost, MemberPost, Name, NonNullPost, Parenthesized, TypeAssertion, TypedBinary, UpdatePostfix, UpdatePrefix}
 use Rattle.es_grammar.specs.declared.rows.Row.{Row}
 use Rattle.es_grammar.specs.declared.rows.NodeKind.{NodeKind}
 use Rattle.es_grammar.specs.declared.rows.Row.TheVariants.{ModuleRow, ScriptRow}
@@ -35,13 +35,14 @@ abbrev pub is_assertion : Plain NodeKind → Bool
 is_assertion (cons operator (cons (cons q ps) rest)) = true
 is_assertion _ = false
 
--- a simple target: a name, a chain that ends in a member, or such a one in brackets, or before `!`, `as` or
--- `satisfies`
+-- a simple target: a name, a chain that ends in a member, or such a one in brackets, before `!`, `as` or `satisfies`,
+-- or behind the type that it is asserted to have
 abbrev pub is_simple : Plain NodeKind → Bool
 is_simple (node Name from to ps) = true
 is_simple (node Parenthesized from to (mark n (cons q ps))) = is_simple q
 is_simple (node Chain from to (cons q (cons p (cons more ps)))) = ends_in_member (is_simple q) p more
 is_simple (node TypedBinary from to (cons q (cons assertion nil))) = is_assertion assertion && is_simple q
+is_simple (node TypeAssertion from to (mark n (cons asserted (mark m (cons q ps))))) = is_simple q
 is_simple _ = false
 
 -- the parts of a node are those that its alternative may have

@@ -4,12 +4,12 @@ use Rattle.std.specs.Prelude.{◌+◌, ◌-◌, Bool, true, false, not, ◌&&◌
 use Rattle.es_token.specs.declared.token.TokenKind.{TokenKind}
 use Rattle.es_token.specs.declared.token.TokenKind.TheVariants as k
 use Rattle.grammar_theory.specs.declared.error.Lang.{Lang}
-use Rattle.grammar_theory.specs.Languages.{typed}
+use Rattle.grammar_theory.specs.Languages.{typed, asserts}
 use Rattle.grammar_theory.specs.Key.{TokenTest, seen, same_kind, has_kind, is, is_after_line}
 use Rattle.grammar_theory.specs.Productions.{as_str, as_name, as_raw, as_kind, as_there, by_lookahead, greedy, by_predicate, Predict, Predicate, Rhs, done, tok, punct, row, opt, many, alt, when_, where_, Production, make, choose, pick, wrap}
 use Rattle.grammar_theory.specs.Tells.{none}
 use Rattle.es_grammar.specs.types.Words.{only, is_name, is_numeric, is_near, is_other, closes_before}
-use Rattle.es_grammar.specs.declared.rows.NodeKind.TheVariants.{AbstractClass, Arguments, ArrayLiteral, Assignment, AsyncFunction, AsyncNameArrow, AsyncParenthesizedArrow, AwaitExpression, Binary, CallPost, Chain, Class, Conditional, Function, ImportCall, SourceCall, DeferCall, ImportMeta, IndexPost, MemberPost, Name, NameArrow, New, NewTarget, NonNullPost, Number, ObjectLiteral, OptionalPost, Parenthesized, ParenthesizedArrow, PatternAssignment, PrivateIn, RegExp, Sequence, Spread, Str, Super, Template, TemplateParts, TemplatePost, TypedAsyncFunction, TypedAsyncParenthesizedArrow, TypedBinary, TypedCallPost, TypedClass, TypedFunction, TypedNew, TypedOptionalPost, TypedParenthesizedArrow, TypedTemplatePost, UnaryExpression, UpdatePostfix, UpdatePrefix, Word, Yield}
+use Rattle.es_grammar.specs.declared.rows.NodeKind.TheVariants.{AbstractClass, Arguments, ArrayLiteral, Assignment, AsyncFunction, AsyncNameArrow, AsyncParenthesizedArrow, AwaitExpression, Binary, CallPost, Chain, Class, Conditional, Function, ImportCall, SourceCall, DeferCall, ImportMeta, IndexPost, MemberPost, Name, NameArrow, New, NewTarget, NonNullPost, Number, ObjectLiteral, OptionalPost, Parenthesized, ParenthesizedArrow, PatternAssignment, PrivateIn, RegExp, Sequence, Spread, Str, Super, Template, TemplateParts, TemplatePost, TypeAssertion, TypedAsyncFunction, TypedAsyncParenthesizedArrow, TypedBinary, TypedCallPost, TypedClass, TypedFunction, TypedNew, TypedOptionalPost, TypedParenthesizedArrow, TypedTemplatePost, UnaryExpression, UpdatePostfix, UpdatePrefix, Word, Yield}
 use Rattle.es_grammar.specs.declared.types.rows.TypeRow.TheVariants as types
 use Rattle.es_grammar.specs.types.Modules.{ended}
 use Rattle.es_grammar.specs.types.TypeNames.{begins_angle}
@@ -63,17 +63,21 @@ follows_parameters c x = is_arrow x || (not c.no_colon && is k.Colon x)
 unfoldable pub opens_parameters_of_arrow : Context → Predicate
 opens_parameters_of_arrow c K at = is k.OpenParen (seen K at) && closes_before (follows_parameters c) K at
 
--- a name before `=>` on its line, such a `(`; in TypeScript also `<`
-unfoldable pub opens_arrow_here : Lang → Context → Predicate
-opens_arrow_here l c K at =
-    if typed l then (has_kind is_name (seen K at) && is_arrow (seen K (at + 1)))
-    || (opens_parameters_of_arrow c K at || is k.Less (seen K at))
-    else opens_plain_arrow K at
-
 -- `<` behind `async` on its line opens one exactly where type parameters can be read there and such a `(` follows
 unfoldable pub opens_generic_async : Context → Predicate
 opens_generic_async c K at =
     is k.Less (seen K at) && reads_before types.TypeParametersRow (opens_parameters_of_arrow c) K at
+
+-- any other `<`; where one may assert a type, it opens an arrow as behind `async`
+abbrev pub opens_generic : Lang → Context → Predicate
+opens_generic l c K at = if asserts l then opens_generic_async c K at else is k.Less (seen K at)
+
+-- a name before `=>` on its line, such a `(`; in TypeScript also `<`
+unfoldable pub opens_arrow_here : Lang → Context → Predicate
+opens_arrow_here l c K at =
+    if typed l then (has_kind is_name (seen K at) && is_arrow (seen K (at + 1)))
+    || (opens_parameters_of_arrow c K at || opens_generic l c K at)
+    else opens_plain_arrow K at
 
 -- `async` before such a name or `(` on its line
 unfoldable pub opens_async_here : Lang → Context → Predicate
@@ -442,9 +446,25 @@ prefix c f = make UnaryExpression (tok as_kind is_prefix (row (UnaryRow c) f))
 unfoldable pub await_ : Context → Rhs Row → Production Row NodeKind
 await_ c f = make AwaitExpression (where_ (may_await c) (punct k.AwaitWord (row (UnaryRow c) f)))
 
+-- behind an operand no assignment goes on
+unfoldable pub no_assignment : Predicate
+no_assignment K at = not (opens_assignment K at)
+
+-- '<' (Type | 'const') '>' Unary, and what stands behind it: brackets stand round such a target of an assignment
+unfoldable pub type_assertion : Context → Rhs Row → Production Row NodeKind
+type_assertion c f =
+    make TypeAssertion (punct k.Less (alt (is k.ConstWord) (tok as_there (only k.ConstWord) done) (type_then done)
+    (punct k.Greater (row (UnaryRow c) (where_ no_assignment f)))))
+
+-- such an assertion, where the language has it, or another rule
+abbrev pub asserted_before : Lang → Context → Rhs Row → Production Row NodeKind → Production Row NodeKind
+asserted_before l c f a = if asserts l then choose (is k.Less) (type_assertion c f) a else a
+
 -- Unary
 unfoldable pub unary : Lang → Context → Production Row NodeKind
-unary l c = choose (has_kind is_prefix) (prefix c done) (choose (is k.AwaitWord) (await_ c done) (update l c))
+unary l c =
+    choose (has_kind is_prefix) (prefix c done)
+    (choose (is k.AwaitWord) (await_ c done) (asserted_before l c done (update l c)))
 
 -- in TypeScript `**` may stand at the level of `<` too, behind a type: not behind such an operand
 unfoldable pub no_power : Lang → Rhs Row
@@ -454,8 +474,9 @@ no_power l = if typed l then when_ (is_other k.StarStar) done else done
 unfoldable pub power : Lang → Context → Production Row NodeKind
 power l c =
     choose (has_kind is_prefix) (prefix c (no_power l)) (choose (is k.AwaitWord) (await_ c (no_power l))
+    (asserted_before l c (no_power l)
     (wrap Binary (update l c) (greedy (is k.StarStar))
-    (tok as_kind (only k.StarStar) (row (PowerRow c) (when_ (is_other k.StarStar) done)))))
+    (tok as_kind (only k.StarStar) (row (PowerRow c) (when_ (is_other k.StarStar) done))))))
 
 -- a level of operators of one token, left-associative
 unfoldable pub level : (TokenKind → Bool) → Row → Production Row NodeKind → Production Row NodeKind

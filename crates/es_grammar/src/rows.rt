@@ -250,6 +250,8 @@ pub enum NodeKind {
     TypedTemplatePost,
     TypedOptionalPost,
     TypedBinary,
+    // `<a>b`
+    TypeAssertion,
     // Those of types.
     FunctionType,
     ConstructorType,

@@ -122,9 +122,10 @@ module _ (x : List ℕ) (ts : List Token) where
       else (if same_label label l.AbstractClass then option_map vExpr.Class (typed.typed_class x ts true r p)
       else (if same_label label l.TypedNew then typed_exprs.typed_new r p
       else (if same_label label l.TypedBinary then typed_exprs.typed_binary ts r p
+      else (if same_label label l.TypeAssertion then typed_exprs.type_assertion r p
       else (if same_label label l.TypedParenthesizedArrow then typed.typed_arrow ts false r p
       else (if same_label label l.TypedAsyncParenthesizedArrow then typed.typed_arrow ts true r p
-      else None))))))))))))))))))))))))))))))))))))))))))))
+      else None)))))))))))))))))))))))))))))))))))))))))))))
 
   -- as a pattern
   unfoldable pub pat_of : NodeKind → ℕ → Range → Value → Option Pat

@@ -76,6 +76,10 @@ asserted_by r e kind (node from to m) =
     else vExpr.TsSatisfies e (Some (vPart.TypeAnn ty)) r) m.ts_type
 asserted_by r e kind _ = None
 
+-- `<a>b` and `<const>b`, as `b as a` and `b as const`
+unfoldable pub type_assertion : Range → Value → Option Expr
+type_assertion r p = given (expr_at p 1) (λ e. asserted_by r e k.AsWord (part (group p 0) 0))
+
 -- what stands behind the operator: an operand, or such a group
 abbrev pub turned_by : List Token → Range → Expr → ℕ → Value → Value → Option Expr
 turned_by ts r e from g (more v vs) = given (kind_at ts g 0) (λ kind. asserted_by r e kind v)

@@ -115,7 +115,7 @@ parenthesis style = if is Loop style || (is Condition style || is Cases style) t
 unfoldable pub sign : Style → TokenKind → Stand
 sign style kind =
     if is_prefix kind then prefix style
-    else if is_tight kind then tight
+    else if is_tight kind then prefix style
     else if closes kind then closer
     else if same_kind kind k.Star then starred style
     else if same_kind kind k.Question then question style

@@ -76,6 +76,7 @@ style l.Assignment = Operator
 style l.UnaryExpression = Prefix
 style l.UpdatePrefix = Prefix
 style l.NumberType = Prefix
+style l.TypeAssertion = Prefix
 style l.IndexPost = Index
 style l.ArrayTypes = Index
 style l.Conditional = Question

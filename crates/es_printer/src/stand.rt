@@ -206,7 +206,7 @@ fn sign(style: Style, kind: TokenKind) -> Stand
     if is_prefix(kind) {
         prefix(style)
     } else if is_tight(kind) {
-        on_line(Left::Tight, Right::Tight)
+        prefix(style)
     } else if closes(kind) {
         on_line(Left::Never, Right::Tight)
     } else if kind == TokenKind::Star {

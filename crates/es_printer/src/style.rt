@@ -119,7 +119,10 @@ pub fn style_of(label: NodeKind) -> Style
         NodeKind::ExportAll | NodeKind::Namespace | NodeKind::DeferImport => Style::Star,
         NodeKind::Binary | NodeKind::TypedBinary | NodeKind::PrivateIn | NodeKind::Assignment =>
             Style::Operator,
-        NodeKind::UnaryExpression | NodeKind::UpdatePrefix | NodeKind::NumberType => Style::Prefix,
+        NodeKind::UnaryExpression
+        | NodeKind::UpdatePrefix
+        | NodeKind::NumberType
+        | NodeKind::TypeAssertion => Style::Prefix,
         NodeKind::IndexPost | NodeKind::ArrayTypes => Style::Index,
         NodeKind::Conditional | NodeKind::ConditionalType => Style::Question,
         NodeKind::TemplatePost => Style::Tag,
@@ -462,6 +465,7 @@ pub fn ends_of(label: NodeKind) -> Ends
         | NodeKind::TypedTemplatePost
         | NodeKind::TypedOptionalPost
         | NodeKind::TypedBinary
+        | NodeKind::TypeAssertion
         | NodeKind::FunctionType => Ends::Never,
         NodeKind::ConstructorType
         | NodeKind::ConditionalType

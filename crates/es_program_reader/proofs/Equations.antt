@@ -2,11 +2,12 @@
 use Rattle.std.specs.Prelude.{List, [], ◌∷◌, Bool, true, false, ◌&&◌, map}
 use Rattle.std.proofs.Common.{◌≡◌, ℕ, refl, sym, ap, ◌∙◌}
 use Rattle.es_grammar.specs.declared.rows.NodeKind.{NodeKind}
+use Rattle.es_grammar.specs.declared.rows.NodeKind.TheVariants as l
 use Rattle.es_grammar.specs.declared.cst.tree.Cst.{Cst, out-Cst, roll-Cst, out-roll-Cst, map-Cst}
 use Rattle.es_grammar.specs.declared.cst.tree.Cst.TheVariants as vCst
 use Rattle.es_grammar.specs.declared.cst.tree.Cst.TheOpen.{Cst-F}
 use Rattle.es_grammar.specs.declared.cst.tree.Cst.TheFolds.{para-roll-Cst}
-use Rattle.es_program_reader.specs.Sound.{names_member, member_layer, is_member, names_non_null, non_null_layer, is_non_null, second_asserted, turn_layer, is_assertion, first_is, simple_by, simple_step, is_simple, may_hold, each_holds, sound_step, is_sound, are_sound}
+use Rattle.es_program_reader.specs.Sound.{names_member, member_layer, is_member, names_non_null, non_null_layer, is_non_null, second_asserted, turn_layer, is_assertion, first_is, inner_parts, simple_by, simple_step, is_simple, may_hold, each_holds, sound_step, is_sound, are_sound}
 
 firsts_of : {B : Type 0} (f : Cst → B) (ts : List Cst)
     → map (λ (part : Cst × B). part.0) (map (λ t. (t, f t)) ts) ≡ ts
@@ -101,13 +102,21 @@ simple_at it = para-roll-Cst Bool simple_step it
 pub simple_leaf : (at : ℕ) → is_simple (vCst.Leaf at) ≡ false
 simple_leaf at = ap is_simple (sym (vCst.rolls-Leaf at)) ∙ simple_at (Cst-F.Leaf at)
 
+-- the inner parts of pairs are the pairs of the inner parts
+inner_of : (label : NodeKind) (parts : List Cst)
+    → inner_parts label (map (λ t. (t, is_simple t)) parts) ≡ map (λ t. (t, is_simple t)) (inner_parts label parts)
+inner_of l.TypeAssertion [] = refl
+inner_of l.TypeAssertion (asserted ∷ parts) = refl
+inner_of _ parts = refl
+
 pub simple_node : (label : NodeKind) (from to : ℕ) (parts : List Cst)
-    → is_simple (vCst.Node label from to parts) ≡ simple_by label parts (first_is is_simple parts)
+    → is_simple (vCst.Node label from to parts) ≡ simple_by label parts (first_is is_simple (inner_parts label parts))
 simple_node label from to parts =
     ap is_simple (sym (vCst.rolls-Node label from to parts)) ∙ simple_at (Cst-F.Node label from to parts)
-    ∙ ap (λ ps. simple_by label ps (first_is (λ (part : Cst × Bool). part.1) (map (λ t. (t, is_simple t)) parts)))
-    (firsts_of is_simple parts)
-    ∙ ap (simple_by label parts) (first_of is_simple parts)
+    ∙ ap (λ ps. simple_by label ps (first_is (λ (part : Cst × Bool). part.1)
+    (inner_parts label (map (λ t. (t, is_simple t)) parts)))) (firsts_of is_simple parts)
+    ∙ ap (λ ps. simple_by label parts (first_is (λ (part : Cst × Bool). part.1) ps)) (inner_of label parts)
+    ∙ ap (simple_by label parts) (first_of is_simple (inner_parts label parts))
 
 pub simple_role : (label : NodeKind) (tree : Cst) → is_simple (vCst.Role label tree) ≡ false
 simple_role label tree = ap is_simple (sym (vCst.rolls-Role label tree)) ∙ simple_at (Cst-F.Role label tree)

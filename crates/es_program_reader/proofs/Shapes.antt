@@ -10,7 +10,7 @@ use Rattle.grammar_theory.proofs.OutLemmas.{clash}
 use Rattle.grammar_theory.proofs.Progress.{both_hold}
 use Rattle.es_grammar.specs.declared.rows.Row.{Row}
 use Rattle.es_grammar.specs.declared.rows.NodeKind.{NodeKind}
-use Rattle.es_grammar.specs.declared.rows.NodeKind.TheVariants.{Parenthesized, Chain, TypedBinary, Assignment, UpdatePostfix, UpdatePrefix}
+use Rattle.es_grammar.specs.declared.rows.NodeKind.TheVariants.{Parenthesized, Chain, TypeAssertion, TypedBinary, Assignment, UpdatePostfix, UpdatePrefix}
 use Rattle.es_program_reader.proofs.FormedLemmas.{IsOne, One}
 
 -- a part stands first
@@ -33,6 +33,11 @@ opens (punct k f) = begins f
 opens (when_ t f) = opens f
 opens (where_ t f) = opens f
 opens _ = false
+
+-- a group stands behind a token that is dropped, and behind it such a part
+abbrev asserts_part : Rhs Row → Bool
+asserts_part (punct k (alt t a b f)) = opens f
+asserts_part _ = false
 
 -- a list whose turns each begin with a part
 abbrev turns_begin : Rhs Row → Bool
@@ -108,6 +113,7 @@ stands UpdatePrefix f = begins_second f
 stands Parenthesized f = opens f
 stands Chain f = behind_two f
 stands TypedBinary f = behind_operand f
+stands TypeAssertion f = asserts_part f
 stands _ f = true
 
 -- a part stands first
@@ -124,6 +130,11 @@ HasSecond _ = ⊥
 abbrev pub HasInner : Plain NodeKind → Type 0
 HasInner (mark n ps) = HasFirst ps
 HasInner _ = ⊥
+
+-- such a part stands behind one that stands behind a token that is dropped
+abbrev pub IsAsserted : Plain NodeKind → Type 0
+IsAsserted (mark n (cons asserted ps)) = HasInner ps
+IsAsserted _ = ⊥
 
 -- each turn begins with a part
 abbrev pub EachBegins : Plain NodeKind → Type 0
@@ -186,6 +197,7 @@ Stands UpdatePrefix ps = HasSecond ps
 Stands Parenthesized ps = HasInner ps
 Stands Chain ps = IsChain ps
 Stands TypedBinary ps = IsBinary ps
+Stands TypeAssertion ps = IsAsserted ps
 Stands _ ps = Unit {0}
 
 moved : (P : Plain NodeKind → Type 0) (p q : Plain NodeKind) → p ≡ q → P q → P p
@@ -229,6 +241,14 @@ module _ (h : Reading) (K : List Key) where
   inner_holds (alt t a b f) p from to e fit = clash e
   inner_holds (when_ t f) p from to e fit = inner_holds f p from to e fit.1
   inner_holds (where_ t f) p from to e fit = inner_holds f p from to e fit.1
+
+  asserted_holds : (f : Rhs Row) (p : Plain NodeKind) (from to : ℕ) → asserts_part f ≡ true → Fits h K One f p from to
+      → IsAsserted p
+  asserted_holds (punct k (alt t a b f)) p from to e fit =
+      moved IsAsserted p (mark from fit.0) fit.1
+      (moved (λ ps. IsAsserted (mark from ps)) fit.0 (cons fit.3.0 fit.3.1) fit.3.3
+      (inner_holds f fit.3.1 fit.3.2 to e fit.3.5))
+  asserted_holds _ p from to e fit = clash e
 
   turns_hold : (c : Predict) (g : Rhs Row) → begins g ≡ true → (q : Plain NodeKind) (from to : ℕ)
       → Turns h K c (Fits h K One g) q from to → EachBegins q
@@ -355,4 +375,5 @@ module _ (h : Reading) (K : List Key) where
   stands_holds Parenthesized f p from to e fit = inner_holds f p from to e fit
   stands_holds Chain f p from to e fit = two_holds f p from to e fit
   stands_holds TypedBinary f p from to e fit = binary_holds f p from to e fit
+  stands_holds TypeAssertion f p from to e fit = asserted_holds f p from to e fit
   stands_holds _ f p from to e fit = tt

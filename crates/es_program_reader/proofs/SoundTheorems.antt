@@ -7,7 +7,7 @@ use Rattle.grammar_theory.specs.Key.{Key}
 use Rattle.grammar_theory.specs.Plain.{Plain, node, leaf, nil, cons, mark, turn, via, made}
 use Rattle.grammar_theory.specs.Fits.{free, Shape, most_nodes}
 use Rattle.es_grammar.specs.declared.rows.NodeKind.{NodeKind}
-use Rattle.es_grammar.specs.declared.rows.NodeKind.TheVariants.{Name, Parenthesized, Chain, TypedBinary, MemberPost, IndexPost, NonNullPost, Assignment, UpdatePostfix, UpdatePrefix}
+use Rattle.es_grammar.specs.declared.rows.NodeKind.TheVariants.{Name, Parenthesized, Chain, TypeAssertion, TypedBinary, MemberPost, IndexPost, NonNullPost, Assignment, UpdatePostfix, UpdatePrefix}
 use Rattle.es_grammar.specs.Table.{rule}
 use Rattle.es_grammar.specs.Conditions as plains
 use Rattle.es_grammar.specs.Conditions.{leans, program_row}
@@ -156,6 +156,9 @@ simple_same (node TypedBinary from to (cons q (cons assertion nil))) fine =
 simple_same (node TypedBinary from to (cons q (cons p (cons more ps)))) fine =
     simple_node TypedBinary from to (tree_of q ∷ tree_of p ∷ tree_of more ∷ parts_of ps)
 simple_same (node TypedBinary from to _) fine = absurd fine.1
+simple_same (node TypeAssertion from to (mark n (cons asserted (mark m (cons q ps))))) fine =
+    simple_node TypeAssertion from to (tree_of asserted ∷ tree_of q ∷ parts_of ps) ∙ simple_same q fine.2.1.2.1.0
+simple_same (node TypeAssertion from to _) fine = absurd fine.1
 simple_same (node l from to ps) fine = simple_node l from to (parts_of ps)
 simple_same (leaf s n) fine = simple_leaf n
 simple_same nil fine = simple_parts []

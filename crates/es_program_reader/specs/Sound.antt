@@ -1,5 +1,5 @@
 -- Whether a kept tree is sound: what is assigned to, or updated, is a simple target (ECMA-262, "AssignmentTargetType"; the
--- handbook of TypeScript, "Everyday Types": a target may stand before `!`, `as` or `satisfies`).
+-- handbook of TypeScript, "Everyday Types": a target may stand before `!`, `as` or `satisfies`, or behind its type).
 use Rattle.std.specs.Prelude.{Bool, true, false, ◌&&◌, List, [], ◌∷◌, map, if◌then◌else◌}
 use Rattle.es_grammar.specs.declared.rows.NodeKind.{NodeKind}
 use Rattle.es_grammar.specs.declared.rows.NodeKind.TheVariants as l
@@ -92,18 +92,24 @@ abbrev pub first_is : {A : Type 0} → (A → Bool) → List A → Bool
 first_is test (q ∷ parts) = test q
 first_is test [] = false
 
--- a name, a chain that ends in a member, one of them in parentheses, or before `!`, `as` or `satisfies`, by what its
--- parts are
+-- the parts from the one on by which a node is a simple target: what is asserted stands behind its type
+abbrev pub inner_parts : {A : Type 0} → NodeKind → List A → List A
+inner_parts l.TypeAssertion (asserted ∷ parts) = parts
+inner_parts _ parts = parts
+
+-- a name, a chain that ends in a member, one of them in parentheses, before `!`, `as` or `satisfies`, or behind its
+-- type, by what its parts are
 abbrev pub simple_by : NodeKind → List Cst → Bool → Bool
 simple_by l.Name parts inner = true
 simple_by l.Parenthesized parts inner = inner
 simple_by l.Chain parts inner = chain_ends inner parts
 simple_by l.TypedBinary parts inner = asserted_target inner parts
+simple_by l.TypeAssertion parts inner = inner
 simple_by _ parts inner = false
 
 abbrev pub simple_step : Cst-F (Cst × Bool) → Bool
 simple_step (Cst-F.Node label from to parts) =
-    simple_by label (map (λ part. part.0) parts) (first_is (λ part. part.1) parts)
+    simple_by label (map (λ part. part.0) parts) (first_is (λ part. part.1) (inner_parts label parts))
 simple_step _ = false
 
 -- a simple target

@@ -1,8 +1,9 @@
 //! Simple targets.
 
 ghost use Rattle.std.specs.Prelude.{◌≡◌, ◌∷◌};
+ghost use Rattle.es_grammar.specs.declared.rows.NodeKind.TheVariants as l;
 ghost use Rattle.es_grammar.specs.declared.cst.tree.Cst.{Cst, out-Cst};
-ghost use Rattle.es_program_reader.specs.Sound.{names_member, is_member, names_non_null, is_non_null, behind_part, first_in, behind_turns, ends_in_member, chain_ends, group_layer, second_asserted, is_assertion, asserted_target, first_is, simple_by, is_simple};
+ghost use Rattle.es_program_reader.specs.Sound.{names_member, is_member, names_non_null, is_non_null, behind_part, first_in, behind_turns, ends_in_member, chain_ends, group_layer, second_asserted, is_assertion, asserted_target, first_is, inner_parts, simple_by, is_simple};
 ghost use Rattle.es_program_reader.specs.Rows.{trees_at, tree_at, one_assertion, all_assert, leant_simple};
 
 use crate::parts::{first_part, parts_of_turn};
@@ -239,16 +240,28 @@ pub fn first_is_simple(parts: Siblings<'_>) -> bool
     }
 }
 
+/// The part of an assertion that follows its type is a simple target.
+#[cycle(simple)]
+fn asserted_is_simple(parts: Siblings<'_>) -> bool
+    ensures { result ≡ first_is is_simple (inner_parts l.TypeAssertion (trees_at parts.entry)) }
+{
+    match first_part(parts) {
+        None => false,
+        Some((_, rest)) => first_is_simple(rest),
+    }
+}
+
 /// A node of these parts is a simple target.
 #[cycle(simple)]
 fn is_simple_node(label: NodeKind, parts: Siblings<'_>) -> bool
-    ensures { result ≡ simple_by label (trees_at parts.entry) (first_is is_simple (trees_at parts.entry)) }
+    ensures { result ≡ simple_by label (trees_at parts.entry) (first_is is_simple (inner_parts label (trees_at parts.entry))) }
 {
     match label {
         NodeKind::Name => true,
         NodeKind::Parenthesized => first_is_simple(parts),
         NodeKind::Chain => chain_ends(first_is_simple(parts), parts),
         NodeKind::TypedBinary => is_asserted_target(first_is_simple(parts), parts),
+        NodeKind::TypeAssertion => asserted_is_simple(parts),
         _ => false,
     }
 }

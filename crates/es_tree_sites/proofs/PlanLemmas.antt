@@ -426,6 +426,7 @@ module _ (x : List ℕ) (ts : List Token) where
   plan_own l.UpdatePostfix p = append-nil (own x ts l.UpdatePostfix p)
   plan_own l.UnaryExpression p = append-nil (own x ts l.UnaryExpression p)
   plan_own l.AwaitExpression p = append-nil (own x ts l.AwaitExpression p)
+  plan_own l.TypeAssertion p = append-nil (own x ts l.TypeAssertion p)
   plan_own l.Binary p = right2 (at p 0) (at p 2)
   plan_own l.PrivateIn p = append-nil (own x ts l.PrivateIn p)
   plan_own l.Conditional p = left3 (at p 0) (at p 1) (at p 2)

@@ -208,6 +208,7 @@ impl TokenizedText<'_> {
             Kind::Chain | Kind::Sequence => &[Tree, Tree, In(Firsts)],
             Kind::UpdatePrefix
             | Kind::UnaryExpression
+            | Kind::TypeAssertion
             | Kind::PrivateIn
             | Kind::TypedCallPost
             | Kind::TypedTemplatePost

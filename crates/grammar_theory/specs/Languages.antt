@@ -19,7 +19,7 @@ elements lang.Jsx = true
 elements lang.Tsx = true
 elements lang.Wide = false
 
--- assertions of a type before what is asserted, as `<T>x`
+-- assertions of a type before what is asserted, such as `<a>b`
 abbrev pub asserts : Lang → Bool
 asserts lang.Es = false
 asserts lang.Typescript = false

@@ -13,11 +13,11 @@ pub enum Lang {
     Es,
     /// ECMAScript with the types and declarations of TypeScript.
     Typescript,
-    /// ECMAScript with elements of JSX and decorators.
+    /// ECMAScript alone: elements of JSX and decorators have no row yet.
     Jsx,
-    /// TypeScript with elements of JSX and decorators.
+    /// TypeScript: elements of JSX and decorators have no row yet.
     Tsx,
-    /// TypeScript with decorators, and with assertions that stand before what is asserted.
+    /// TypeScript with assertions that precede what is asserted, such as `<a>b`; decorators have no row yet.
     Wide,
 }
 

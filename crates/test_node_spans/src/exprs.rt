@@ -80,6 +80,7 @@ fn operator_kind(tokens: &[Token], it: &Operator<'_>) -> Option<&'static str> {
         Operator::PatternAssignment { .. } => Some("Assign"),
         Operator::Yield(_) => Some("Yield"),
         Operator::TypedBinary { turn, .. } => turn_kind(tokens, turn),
+        Operator::TypeAssertion { asserted, .. } => asserted_kind(asserted),
         Operator::Sequence { .. } => Some("Seq"),
         Operator::Broken => None,
     }
@@ -93,6 +94,14 @@ fn turn_kind(tokens: &[Token], turn: &Siblings<'_>) -> Option<&'static str> {
             None => assertion_kind(tokens.get(turn.token_at(0)? as usize)?.kind()),
         },
         None => Some("Bin"),
+    }
+}
+
+/// Before an operand: a type, or `const`.
+fn asserted_kind(asserted: &Siblings<'_>) -> Option<&'static str> {
+    match asserted.part(0)?.token() {
+        Some(_) => Some("TsConstAssertion"),
+        None => Some("TsAs"),
     }
 }
 

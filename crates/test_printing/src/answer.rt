@@ -16,6 +16,7 @@ use test_rows::Row;
 fn lang_of(row: &Row) -> Lang {
     match row.call() {
         "ts" | "emit-ts" | "again-ts" => Lang::Typescript,
+        "wide" => Lang::Wide,
         _ => Lang::Es,
     }
 }

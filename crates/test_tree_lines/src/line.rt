@@ -11,25 +11,38 @@ use std::alloc::{AllocError, Global};
 /// The tree of a text after its mode, or why it has none.
 pub fn line_of(alloc: Global, text: &str) -> Result<String, AllocError> {
     if let Some(script) = text.strip_prefix('s') {
-        return program_line(alloc, Mode::Script, script);
+        return program_line(alloc, Lang::Es, Mode::Script, script);
+    }
+    if let Some(wide) = text.strip_prefix('w') {
+        return program_line(alloc, Lang::Wide, Mode::Module, wide);
     }
     match text.strip_prefix('m') {
-        Some(module) => program_line(alloc, Mode::Module, module),
-        None => program_line(alloc, Mode::Module, text),
+        Some(module) => program_line(alloc, Lang::Es, Mode::Module, module),
+        None => program_line(alloc, Lang::Es, Mode::Module, text),
     }
 }
 
-fn program_line(alloc: Global, mode: Mode, text: &str) -> Result<String, AllocError> {
+fn program_line(
+    alloc: Global,
+    lang: Lang,
+    mode: Mode,
+    text: &str,
+) -> Result<String, AllocError> {
     match lex_tokens(alloc, text) {
-        Ok(lexed) => tokens_line(alloc, mode, lexed.tokens.as_slice()),
+        Ok(lexed) => tokens_line(alloc, lang, mode, lexed.tokens.as_slice()),
         Err(LexError::Lexical(error)) => format!(in alloc; "{error}"),
         Err(LexError::OutOfMemory) => Err(AllocError),
     }
 }
 
-fn tokens_line(alloc: Global, mode: Mode, tokens: &[Token]) -> Result<String, AllocError> {
+fn tokens_line(
+    alloc: Global,
+    lang: Lang,
+    mode: Mode,
+    tokens: &[Token],
+) -> Result<String, AllocError> {
     let mut line = String::new(alloc);
-    match read_program(alloc, Lang::Es, mode, tokens) {
+    match read_program(alloc, lang, mode, tokens) {
         Ok(row) => push_trees(
             alloc,
             &mut line,

@@ -1,5 +1,5 @@
 //! Prints the plain trees of texts that `read_program` answers, a line each (`src/line.rt`). The texts of the input are separated by U+0001; the
-//! first character of each is its mode: `m` a module, `s` a script.
+//! first character of each is its mode: `m` a module, `s` a script, `w` a module in `Wide`.
 #![tactic(auto)]
 
 mod line;

@@ -22,6 +22,7 @@ use Rattle.es_syntax.specs.declared.cursor.Siblings.{Siblings}
 use Rattle.es_syntax.specs.Held.{held, valued, label_of}
 use Rattle.es_syntax.specs.Places.{place_of}
 use Rattle.es_syntax.specs.Roles.{expr_in}
+use Rattle.es_view_expressions.specs.operator.Operator as view
 use Rattle.es_view_expressions.specs.operator.Lean.{the_turn}
 use Rattle.es_view_expressions.specs.declared.operator.lean.Turn.{Turn}
 use Rattle.es_view_expressions.specs.declared.operator.lean.Turn.TheVariants as vTurn
@@ -84,6 +85,13 @@ module _ (x : List ℕ) (ts : List Token) where
   asserted r left kind absent before old p = record { queues = tt }
   asserted r left kind nil before old p = record { queues = tt }
   asserted r left kind (more v vs) before old p = record { queues = tt }
+
+  -- behind a type, or `const`
+  pub asserted_before : (r : Range) (type_ : Value) (arg : Option Expr) (before old : List Task) → Q arg before old
+      → Q (view.asserted r type_ arg) before old
+  unfolding view.asserted
+  asserted_before r type_ None before old p = record { queues = tt }
+  asserted_before r type_ (Some e) before old p = asserted r e k.AsWord (part type_ 0) before old p
 
   by_kind : (r : Range) (left : Expr) (kind : Option TokenKind) (v : Value) (before old : List Task)
       → Q (Some left) before old → Q (given kind (λ kind. asserted_by r left kind v)) before old

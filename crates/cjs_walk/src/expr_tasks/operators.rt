@@ -46,7 +46,7 @@ fn typed_turn<'a>(next: &mut Items<Task<'a>>, turn: &Siblings<'a>) -> Result<(),
 }
 
 /// What an operator leaves, but for an assignment.
-#[tactic(auto, using(crate::proofs::expr_tasks_lemmas::OperatorForms::prefix, crate::proofs::expr_tasks_lemmas::OperatorForms::postfix, crate::proofs::expr_tasks_lemmas::OperatorForms::unary, crate::proofs::expr_tasks_lemmas::OperatorForms::awaited, crate::proofs::expr_tasks_lemmas::OperatorForms::binary, crate::proofs::expr_tasks_lemmas::OperatorForms::private_in, crate::proofs::expr_tasks_lemmas::OperatorForms::conditional, crate::proofs::expr_tasks_lemmas::OperatorForms::typed_binary, crate::proofs::expr_tasks_lemmas::OperatorForms::sequence))]
+#[tactic(auto, using(crate::proofs::expr_tasks_lemmas::OperatorForms::prefix, crate::proofs::expr_tasks_lemmas::OperatorForms::postfix, crate::proofs::expr_tasks_lemmas::OperatorForms::unary, crate::proofs::expr_tasks_lemmas::OperatorForms::awaited, crate::proofs::expr_tasks_lemmas::OperatorForms::binary, crate::proofs::expr_tasks_lemmas::OperatorForms::private_in, crate::proofs::expr_tasks_lemmas::OperatorForms::conditional, crate::proofs::expr_tasks_lemmas::OperatorForms::typed_binary, crate::proofs::expr_tasks_lemmas::TurnForms::asserted_before, crate::proofs::expr_tasks_lemmas::OperatorForms::sequence))]
 pub fn operator<'a>(next: &mut Items<Task<'a>>, it: &Operator<'a>) -> Result<(), AllocError>
     ensures { OnOk result ((x : List ℕ) (ts : List Tok) (r : Range) → Queues x ts (of facts_of_expr (the_operator x ts r it.now)) next.old next.new) }
 {
@@ -72,6 +72,7 @@ pub fn operator<'a>(next: &mut Items<Task<'a>>, it: &Operator<'a>) -> Result<(),
             queue(next, Task::Expr(left))?;
             typed_turn(next, &turn)
         }
+        Operator::TypeAssertion { asserted: _, arg } => queue(next, Task::Expr(arg)),
         Operator::Sequence {
             first,
             second,

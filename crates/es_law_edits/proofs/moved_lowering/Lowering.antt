@@ -106,10 +106,11 @@ expr_of_moves {m = m} told label from_ r_ p_ =
     (map_moves _ _ (by_typed_functions.typed_class_moves told (same true) r_ p_) (λ a a2 a_. expr_Class m a_))
     (if_moves (same (same_label label l.TypedNew)) (by_typed_expressions.typed_new_moves r_ p_)
     (if_moves (same (same_label label l.TypedBinary)) (by_typed_expressions.typed_binary_moves told r_ p_)
+    (if_moves (same (same_label label l.TypeAssertion)) (by_typed_expressions.type_assertion_moves r_ p_)
     (if_moves (same (same_label label l.TypedParenthesizedArrow))
     (by_typed_functions.typed_arrow_moves told (same false) r_ p_)
     (if_moves (same (same_label label l.TypedAsyncParenthesizedArrow))
-    (by_typed_functions.typed_arrow_moves told (same true) r_ p_) none))))))))))))))))))))))))))))))))))))))))))))
+    (by_typed_functions.typed_arrow_moves told (same true) r_ p_) none)))))))))))))))))))))))))))))))))))))))))))))
 
 pub pat_of_moves : {m : Move} {x y : List ℕ} {ts us : List Token} → Texts m x y ts us → (label : NodeKind)
     → {from from2 : ℕ} → from2 ≡ from → {r r2 : Range} → By (range_to m) r r2 → {p p2 : Value} → Moves m p p2

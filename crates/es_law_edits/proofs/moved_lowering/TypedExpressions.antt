@@ -8,7 +8,7 @@ use Rattle.grammar_theory.specs.Key.{same_kind}
 use Rattle.es_ast.specs.declared.ts.ts.TsPart.{TsPart}
 use Rattle.es_ast.specs.declared.ast.Expr.{Expr}
 use Rattle.es_lowering.specs.Value.{Value}
-use Rattle.es_lowering.specs.TypedExpressions.{typed_call_of, typed_call, typed_call_post, typed_tagged_of, typed_template_post, non_null_of, non_null_post, typed_optional_inner, typed_optional_of, typed_optional_post, typed_new_of, typed_new, asserted_by, turned_by, typed_binary}
+use Rattle.es_lowering.specs.TypedExpressions.{typed_call_of, typed_call, typed_call_post, typed_tagged_of, typed_template_post, non_null_of, non_null_post, typed_optional_inner, typed_optional_of, typed_optional_post, typed_new_of, typed_new, asserted_by, type_assertion, turned_by, typed_binary}
 use Rattle.std.proofs.Common.{◌≡◌, ap}
 use Rattle.es_law_edits.proofs.moved.Expressions.{expr_Bin, expr_Call, expr_New, expr_TaggedTpl, expr_TsAs, expr_TsConstAssertion, expr_TsNonNull, expr_TsSatisfies}
 use Rattle.es_law_edits.proofs.moved.Rel.{By, Each, Fun, Opt, end, none, some}
@@ -138,6 +138,13 @@ asserted_by_moves {m = m} r_ e_ kind_ (made from to it_) =
 asserted_by_moves r_ e_ kind_ gone = none
 asserted_by_moves r_ e_ kind_ over = none
 asserted_by_moves r_ e_ kind_ (pair a b) = none
+
+pub type_assertion_moves : {m : Move} {r r2 : Range} → By (range_to m) r r2 → {p p2 : Value} → Moves m p p2
+    → Opt (By (expr_to m)) (type_assertion r p) (type_assertion r2 p2)
+unfolding type_assertion
+type_assertion_moves r_ p_ =
+    given_moves (expr_at_moves p_ (same 1))
+    (λ e e2 e_. asserted_by_moves r_ e_ (same k.AsWord) (part_moves (group_moves p_ (same 0)) (same 0)))
 
 pub turned_by_moves : {m : Move} {x y : List ℕ} {ts us : List Token} → Texts m x y ts us → {r r2 : Range}
     → By (range_to m) r r2 → {e e2 : Expr} → By (expr_to m) e e2 → {from from2 : ℕ} → from2 ≡ from → {g g2 : Value}

@@ -362,6 +362,7 @@ module _ (changes : List TextChange) (x : List ℕ) (ts : List Token) (y : List 
   own_moves l.TypedClass a b p q h = all (two (may_run h 2) (turns_run h 4 0) refl)
   own_moves l.AbstractClass a b p q h = all (two (may_run h 2) (turns_run h 4 0) refl)
   own_moves l.TypedNew a b p q h = all (two (at_run h 0) (may_run h 2) refl)
+  own_moves l.TypeAssertion a b p q h = all (at_run h 1)
   own_moves l.TypedBinary a b p q h = all (two (at_run h 0) (operand_run h 1) refl)
   own_moves l.TypedParenthesizedArrow a b p q h = all (two (at_run h 1) (at_in h 3 0) refl)
   own_moves l.TypedAsyncParenthesizedArrow a b p q h = all (two (at_run h 1) (at_in h 3 0) refl)

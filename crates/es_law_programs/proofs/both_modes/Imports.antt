@@ -23,7 +23,7 @@ use Rattle.es_grammar.specs.declared.rows.Context.{Context}
 use Rattle.es_grammar.specs.declared.rows.Row.{Row}
 use Rattle.es_grammar.specs.declared.rows.Row.TheVariants.{StatementRow, VariablesRow, UsingRow, PatternRow, ExpressionRow, TypesRow}
 use Rattle.es_grammar.specs.declared.rows.NodeKind.{NodeKind}
-use Rattle.es_grammar.specs.Expressions.{arrow_in, parameters_arrow_in, plain_arrow, async_arrow, template, function, async_function, class_form, class_, abstract_class, array_literal, object_literal, name_expression, named_primary, primary, import_arguments, import_call, source_call, defer_call, import_meta, import_base, imported, base, chain, update, prefix, await_, power, level, product, sum, shifted, shift, private_in, relation, equality, bit_and, bit_xor, bit_or, and_, coalesce, binary, conditional, yield_, assignment, expression}
+use Rattle.es_grammar.specs.Expressions.{arrow_in, parameters_arrow_in, plain_arrow, async_arrow, template, function, async_function, class_form, class_, abstract_class, array_literal, object_literal, name_expression, named_primary, primary, import_arguments, import_call, source_call, defer_call, import_meta, import_base, imported, base, chain, update, prefix, await_, type_assertion, power, level, product, sum, shifted, shift, private_in, relation, equality, bit_and, bit_xor, bit_or, and_, coalesce, binary, conditional, yield_, assignment, expression}
 use Rattle.es_grammar.specs.Embedding.{type_parameters_in}
 use Rattle.es_grammar.specs.Functions.{array_pattern, object_pattern, bracket_pattern, pattern}
 use Rattle.es_grammar.specs.Statements.{condition_in, block, variables, using_in, using_, for_, for_each, for_await, return_, switch_, try_, expression_statement, keyword_statement, other_statement}
@@ -58,7 +58,7 @@ pattern_may l c h = clash h
 expression_may : (l : Lang) (c : Context) → rule_may (rule l (ExpressionRow c)) ≡ true → ⊥
 unfolding rule expression assignment plain_arrow async_arrow arrow_in parameters_arrow_in yield_ conditional binary and_
     coalesce bit_or bit_xor bit_and equality relation shifted shift private_in sum product power level update prefix
-    await_ chain base imported import_base source_call defer_call import_call import_arguments import_meta primary
+    await_ type_assertion chain base imported import_base source_call defer_call import_call import_arguments import_meta primary
     array_literal object_literal function async_function class_ class_form named_primary abstract_class name_expression
     template type_parameters_in is_name is_numeric is_prefix is_update is_literal_word
 expression_may lang.Es c h = clash h

@@ -19,7 +19,7 @@ use Rattle.es_grammar.specs.types.Words.{only}
 use Rattle.es_token.specs.declared.token.TokenKind.TheVariants as k
 use Rattle.es_grammar.specs.Rows.{outside, in_head}
 use Rattle.es_grammar.specs.Embedding.{annotation_in, type_parameters_in}
-use Rattle.es_grammar.specs.Expressions.{opens_parameters_of_arrow, opens_arrow_here, opens_generic_async, opens_async_here, opens_any_arrow, arrow_in, opens_arrow_result, arrow_result_in, parameters_arrow_in, plain_arrow, opens_async_list, async_arrow, template, star_in, name_in, body_in, function, async_function, references_in, heritage_in, implements_in, class_form, class_, abstract_class, spread, array_literal, object_literal, opens_no_arrow, name_expression, named_primary, primary, import_arguments, import_call, source_call, defer_call, is_module, import_meta, import_base, new_arguments_in, imported, class_name_in, no_power, right_operand, tight_in, base, chain, callee, may_await, update, prefix, await_, unary, power, level, product, sum, shifted, shift, opens_comparison, may_test, private_in, comparison_in, asserted, asserted_or, no_form, relation, equality, bit_and, bit_xor, bit_or, and_, coalesce, binary, conditional, yield_, assignment, expression, element}
+use Rattle.es_grammar.specs.Expressions.{opens_parameters_of_arrow, opens_arrow_here, opens_generic_async, opens_async_here, opens_any_arrow, arrow_in, opens_arrow_result, arrow_result_in, parameters_arrow_in, plain_arrow, opens_async_list, async_arrow, template, star_in, name_in, body_in, function, async_function, references_in, heritage_in, implements_in, class_form, class_, abstract_class, spread, array_literal, object_literal, opens_no_arrow, name_expression, named_primary, primary, import_arguments, import_call, source_call, defer_call, is_module, import_meta, import_base, new_arguments_in, imported, class_name_in, no_power, right_operand, tight_in, base, chain, callee, may_await, update, prefix, await_, type_assertion, asserted_before, unary, power, level, product, sum, shifted, shift, opens_comparison, may_test, private_in, comparison_in, asserted, asserted_or, no_form, relation, equality, bit_and, bit_xor, bit_or, and_, coalesce, binary, conditional, yield_, assignment, expression, element}
 use Rattle.es_grammar.specs.Functions.{default_in, array_pattern, object_pattern, target, bracket_pattern, inner_pattern, pattern, pattern_element}
 use Rattle.es_grammar.specs.Statements.{condition_in, block, declarators, using_in, using_, head_pattern, head_pattern_in, head, start_in, for_, for_each, for_await, return_, case_in, switch_, finally_in, try_, is_script, expression_statement, keyword_statement, other_statement}
 use Rattle.es_grammar.specs.Declarations.{type_members, interface, alias, enum_, items_in, namespace, module_namespace, global, typed_declaration, declare, plain_declaration, declaration, statement}
@@ -92,11 +92,20 @@ module _ (K : List Key) (Below : Row → Plain NodeKind → ℕ → ℕ → Type
   unfolding await_ may_await
   await_eases c f g h = made (where_in (λ at h. refl) (punct_in (row_in K Below each h)))
 
+  asserted_eases : (l : Lang) (c : Context) (a b : Production Row NodeKind) → RuleEases a b
+      → RuleEases (asserted_before l c done a) (asserted_before l (both c) done b)
+  unfolding type_assertion
+  asserted_eases lang.Es c a b h = h
+  asserted_eases lang.Typescript c a b h = h
+  asserted_eases lang.Jsx c a b h = h
+  asserted_eases lang.Tsx c a b h = h
+  asserted_eases lang.Wide c a b h = chosen_in (same_rule K Below each) h
+
   pub unary_eases : (l : Lang) (c : Context) → RuleEases (unary l c) (unary l (both c))
   unfolding unary prefix
   unary_eases l c =
       chosen_in (same_rule K Below each)
-      (chosen_in (await_eases c done done (same_form K Below each)) (update_eases l c))
+      (chosen_in (await_eases c done done (same_form K Below each)) (asserted_eases l c _ _ (update_eases l c)))
 
   no_power_eases : (l : Lang) → Eases (no_power l) (no_power l)
   unfolding no_power
@@ -110,12 +119,21 @@ module _ (K : List Key) (Below : Row → Plain NodeKind → ℕ → ℕ → Type
   unfolding prefix
   prefix_eases l c = made (tok_in (row_in K Below each (no_power_eases l)))
 
+  asserted_power_eases : (l : Lang) (c : Context) (a b : Production Row NodeKind) → RuleEases a b
+      → RuleEases (asserted_before l c (no_power l) a) (asserted_before l (both c) (no_power l) b)
+  unfolding type_assertion no_power
+  asserted_power_eases lang.Es c a b h = h
+  asserted_power_eases lang.Typescript c a b h = h
+  asserted_power_eases lang.Jsx c a b h = h
+  asserted_power_eases lang.Tsx c a b h = h
+  asserted_power_eases lang.Wide c a b h = chosen_in (same_rule K Below each) h
+
   pub power_eases : (l : Lang) (c : Context) → RuleEases (power l c) (power l (both c))
   unfolding power
   power_eases l c =
       chosen_in (prefix_eases l c)
       (chosen_in (await_eases c (no_power l) (no_power l) (no_power_eases l))
-      (wrapped_in (update_eases l c) (same_form K Below each)))
+      (asserted_power_eases l c _ _ (wrapped_in (update_eases l c) (same_form K Below each))))
 
   level_eases : (may : TokenKind → Bool) (r : Row) (a b : Production Row NodeKind) → RuleEases a b
       → RuleEases (level may r a) (level may (both_row r) b)

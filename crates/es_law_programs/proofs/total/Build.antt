@@ -15,7 +15,7 @@ use Rattle.es_law_programs.proofs.total.Uses.{Use, as_expr, as_pat, as_stmt, as_
 use Rattle.es_law_programs.proofs.total.Needs.{Meets}
 use Rattle.es_law_programs.proofs.total.Words.{map_there}
 use Rattle.es_law_programs.proofs.total.Table.{needs_expr, needs_pat, needs_marked, needs_variables, needs_declarable, needs_decl, needs_block, needs_stmt, needs_declarator, needs_param, needs_head, needs_params, needs_signature, needs_pat_prop, needs_key, needs_prop, needs_member, needs_post, needs_args, needs_names, needs_clause, needs_import_specifier, needs_export_specifier, needs_attributes, needs_entity, needs_module_decl, needs_program, needs_type, needs_arguments, needs_type_params, needs_element, needs_type_member, needs_type_key, needs_type_pat, needs_type_prop, needs_fn_param, needs_fn_params, needs_reference, needs_item, needs}
-use Rattle.es_law_programs.proofs.total.ExprForms.{expr_Name, expr_Word, expr_Number, expr_Str, expr_RegExp, expr_Template, expr_TemplateParts, expr_Parenthesized, expr_ArrayLiteral, expr_ObjectLiteral, expr_Spread, expr_Function, expr_AsyncFunction, expr_Class, expr_Super, expr_ImportCall, expr_ImportMeta, expr_NewTarget, expr_New, expr_Chain, expr_UpdatePrefix, expr_UpdatePostfix, expr_UnaryExpression, expr_AwaitExpression, expr_Binary, expr_PrivateIn, expr_Conditional, expr_Assignment, expr_PatternAssignment, expr_Yield, expr_NameArrow, expr_ParenthesizedArrow, expr_AsyncNameArrow, expr_AsyncParenthesizedArrow, expr_Sequence, expr_TypedFunction, expr_TypedAsyncFunction, expr_TypedClass, expr_AbstractClass, expr_TypedNew, expr_TypedBinary, expr_TypedParenthesizedArrow, expr_TypedAsyncParenthesizedArrow, post_MemberPost, post_IndexPost, post_CallPost, post_TemplatePost, post_OptionalPost, post_TypedCallPost, post_TypedTemplatePost, post_TypedOptionalPost, post_NonNullPost, args_Arguments}
+use Rattle.es_law_programs.proofs.total.ExprForms.{expr_Name, expr_Word, expr_Number, expr_Str, expr_RegExp, expr_Template, expr_TemplateParts, expr_Parenthesized, expr_ArrayLiteral, expr_ObjectLiteral, expr_Spread, expr_Function, expr_AsyncFunction, expr_Class, expr_Super, expr_ImportCall, expr_ImportMeta, expr_NewTarget, expr_New, expr_Chain, expr_UpdatePrefix, expr_UpdatePostfix, expr_UnaryExpression, expr_AwaitExpression, expr_Binary, expr_PrivateIn, expr_Conditional, expr_Assignment, expr_PatternAssignment, expr_Yield, expr_NameArrow, expr_ParenthesizedArrow, expr_AsyncNameArrow, expr_AsyncParenthesizedArrow, expr_Sequence, expr_TypedFunction, expr_TypedAsyncFunction, expr_TypedClass, expr_AbstractClass, expr_TypedNew, expr_TypedBinary, expr_TypeAssertion, expr_TypedParenthesizedArrow, expr_TypedAsyncParenthesizedArrow, post_MemberPost, post_IndexPost, post_CallPost, post_TemplatePost, post_OptionalPost, post_TypedCallPost, post_TypedTemplatePost, post_TypedOptionalPost, post_NonNullPost, args_Arguments}
 use Rattle.es_law_programs.proofs.total.StmtForms.{pat_NamePattern, pat_ArrayPattern, pat_ObjectPattern, pat_RestPattern, pat_DefaultPattern, marked_NamePattern, marked_ArrayPattern, marked_ObjectPattern, variables_Variables, variables_Using, declarable_TypedFunction, declarable_TypedAsyncFunction, declarable_TypedClass, declarable_AbstractClass, declarable_InterfaceDeclaration, declarable_AliasDeclaration, declarable_EnumDeclaration, declarable_NamespaceDeclaration, declarable_ModuleDeclaration, declarable_GlobalDeclaration, decl_Function, decl_AsyncFunction, decl_Class, decl_VariableDeclaration, decl_UsingDeclaration, decl_Variables, decl_Using, decl_Declared, decl_DeclaredVariables, block_Block, stmt_Block, stmt_EmptyStatement, stmt_ExpressionStatement, stmt_LabelledStatement, stmt_IfStatement, stmt_ForStatement, stmt_ForEachStatement, stmt_ForAwaitStatement, stmt_WhileStatement, stmt_DoStatement, stmt_ContinueStatement, stmt_BreakStatement, stmt_ReturnStatement, stmt_ThrowStatement, stmt_SwitchStatement, stmt_TryStatement, stmt_DebuggerStatement, stmt_WithStatement, stmt_TypedTryStatement, declarator_Declarator, declarator_TypedDeclarator, param_DefaultParameter, param_ThisParameter, param_PropertyParameter, param_MarkedParameter, head_VariableHead, head_UsingHead, head_TypedVariableHead, params_Parameters, params_Signature, params_TypedParameters, signature_TypedSignature, pat_prop_RestProperty, pat_prop_KeyPattern, pat_prop_NameProperty, key_WordKey, key_StrKey, key_NumberKey, key_ComputedKey, key_PrivateKey, prop_SpreadProperty, prop_AccessorProperty, prop_AsyncProperty, prop_GeneratorProperty, prop_MethodProperty, prop_KeyValue, prop_Shorthand, prop_TypedAccessorProperty, prop_TypedAsyncProperty, prop_TypedGeneratorProperty, prop_TypedMethodProperty, member_EmptyMember, member_StaticBlock, member_AccessorMember, member_AsyncMember, member_GeneratorMember, member_MethodMember, member_FieldMember, member_AccessorField, member_TypedAccessorMember, member_TypedAsyncMember, member_TypedGeneratorMember, member_TypedMethodMember, member_TypedFieldMember, member_TypedAccessorField, member_IndexMember}
 use Rattle.es_law_programs.proofs.total.ModuleForms.{names_Namespace, names_NamedImports, clause_DefaultClause, clause_DefaultAndClause, import_specifier_RenamedImport, import_specifier_ImportedName, export_specifier_ExportedName, attributes_Attributes, entity_Entity, entity_EntityOfType, module_decl_BareImport, module_decl_FromImport, module_decl_phase, module_decl_RequireImport, module_decl_EntityImport, module_decl_ExportedRequireImport, module_decl_ExportedEntityImport, module_decl_ExportAll, module_decl_ExportNames, module_decl_ExportNamespace, module_decl_ExportDefaultFunction, module_decl_ExportDefaultClass, module_decl_ExportDefaultExpression, module_decl_ExportDeclaration, module_decl_ExportDefaultInterface, module_decl_ExportAssignment, program_Module, program_Script}
 use Rattle.es_law_programs.proofs.total.TypeForms.{type_FunctionType, type_ConstructorType, type_ConditionalType, type_UnionType, type_LeadingUnionType, type_IntersectionType, type_LeadingIntersectionType, type_TypeOperator, type_InferType, type_ArrayTypes, type_KeywordType, type_ThisType, type_WordType, type_StrType, type_NumberType, type_TemplateType, type_TemplateTypes, type_TypeQuery, type_ParenthesizedType, type_MembersType, type_TupleType, type_MappedType, type_Reference, type_ImportType, type_AssertsResult, type_PredicateResult, type_EntityOfType, arguments_TypeArguments, type_params_TypeParameters, element_RestElement, element_LabelledElement, element_OptionalElement, type_member_CallSignature, type_member_ConstructSignature, type_member_IndexSignature, type_member_AccessorSignature, type_member_MethodSignature, type_member_PropertySignature, type_member_ReadonlyProperty, type_key_WordKeyOfType, type_key_StrKeyOfType, type_key_NumberKeyOfType, type_key_ComputedKeyOfType, type_key_WordPatternKey, type_key_StrPatternKey, type_key_NumberPatternKey, type_pat_NamePatternOfType, type_pat_ArrayPatternOfType, type_pat_ObjectPatternOfType, type_pat_RestPatternOfType, type_prop_RestPropertyOfType, type_prop_KeyProperty, type_prop_NamePropertyOfType, fn_param_ThisParameterOfType, fn_param_MarkedParameterOfType, fn_params_ParametersOfType, reference_Reference, reference_EntityOfType}
@@ -67,6 +67,7 @@ module _ (x : List ℕ) (ts : List Token) where
   expr_there l.AbstractClass from r p m = expr_AbstractClass x ts from r p m
   expr_there l.TypedNew from r p m = expr_TypedNew x ts from r p m
   expr_there l.TypedBinary from r p m = expr_TypedBinary x ts from r p m
+  expr_there l.TypeAssertion from r p m = expr_TypeAssertion x ts from r p m
   expr_there l.TypedParenthesizedArrow from r p m = expr_TypedParenthesizedArrow x ts from r p m
   expr_there l.TypedAsyncParenthesizedArrow from r p m = expr_TypedAsyncParenthesizedArrow x ts from r p m
   expr_there _ from r p m = absurd m

@@ -18,7 +18,7 @@ use Rattle.es_lowering.specs.TypedExpressions as typed_exprs
 use Rattle.es_law_programs.proofs.total.Uses.{as_expr, as_prop, as_member, as_post, as_args, as_type, as_arguments, as_type_params, IsThere}
 use Rattle.es_law_programs.proofs.total.Needs.{rest, any, of, word, maybe, Meets}
 use Rattle.es_law_programs.proofs.total.Words.{given_there, map_there, is_piece, listed_there, word_found, numeric_found, private_found, property_found, piece_found}
-use Rattle.es_law_programs.proofs.total.Parts.{optional_in, turns_in, elements_in, body_found, stmt_body_found, yield_found, optional_found, typed_optional_found, turned_found, heritage_found, behind_operand}
+use Rattle.es_law_programs.proofs.total.Parts.{optional_in, turns_in, elements_in, body_found, stmt_body_found, yield_found, optional_found, typed_optional_found, before_found, turned_found, heritage_found, behind_operand}
 use Rattle.es_law_programs.proofs.total.Table.{needs_expr, needs_post, needs_args}
 
 module _ (x : List ℕ) (ts : List Token) where
@@ -360,6 +360,11 @@ module _ (x : List ℕ) (ts : List Token) where
   unfolding typed_exprs.typed_binary
   expr_TypedBinary from r p m =
       given_there (expr_at p 0) _ m.0 (λ a1. turned_found x ts r a1 (part p 0) (group p 1) m.1.0)
+
+  pub expr_TypeAssertion : (from : ℕ) (r : Range) (p : Value)
+      → Meets ts absent (needs_expr l.TypeAssertion) (part p) → IsThere (typed_exprs.type_assertion r p)
+  unfolding typed_exprs.type_assertion
+  expr_TypeAssertion from r p m = given_there (expr_at p 1) _ m.1.0 (λ a1. before_found x ts r a1 p m.0)
 
   pub expr_TypedParenthesizedArrow : (from : ℕ) (r : Range) (p : Value)
       → Meets ts absent (needs_expr l.TypedParenthesizedArrow) (part p) → IsThere (typed.typed_arrow ts false r p)

@@ -4,6 +4,7 @@ use Rattle.std.proofs.Common.{◌≡◌, ◌⊎◌, ℕ, refl, sym, subst, inl, 
 use Rattle.base.specs.declared.range.Range.{Range}
 use Rattle.es_token.specs.declared.token.Token.{Token}
 use Rattle.es_token.specs.declared.token.TokenKind.{TokenKind}
+use Rattle.es_token.specs.declared.token.TokenKind.TheVariants as k
 use Rattle.es_ast.specs.declared.ts.leaf.Ident.{Ident}
 use Rattle.es_ast.specs.declared.ts.ts.TsPart.{TsPart}
 use Rattle.es_ast.specs.declared.ts.ts.TsType.{TsType}
@@ -271,6 +272,16 @@ module _ (x : List ℕ) (ts : List Token) where
   first_asserted : (v vs : Value) → IsAsserted (more v vs) → IsThere (token_of ts v) ⊎ HasAt as_type v
   first_asserted v vs (inl h) = inl h.0
   first_asserted v vs (inr h) = inr h.0
+
+  before_there : (r : Range) (e : Expr) (g : Value) → IsAsserted g → IsThere (asserted_by r e k.AsWord (part g 0))
+  before_there r e g (inl h) = asserted_there r e k.AsWord (part g 0) (inl h.0)
+  before_there r e g (inr h) = asserted_there r e k.AsWord (part g 0) (inr h.0)
+
+  -- before an operand: a type or `const`
+  pub before_found : (r : Range) (e : Expr) (p : Value)
+      → Meets ts absent (leaf rest) (part (group p 0)) ⊎ Meets ts absent (of as_type rest) (part (group p 0))
+      → IsThere (asserted_by r e k.AsWord (part (group p 0) 0))
+  before_found r e p h = before_there r e (group p 0) h
 
   turned_there : (r : Range) (e : Expr) (from : ℕ) (g v : Value)
       → (IsThere (token_of ts (part g 0)) × IsAsserted (as_group v))

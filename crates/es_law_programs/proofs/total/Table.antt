@@ -57,6 +57,7 @@ needs_expr l.AbstractClass =
 needs_expr l.TypedNew = of as_expr (maybe (of as_arguments rest) (maybe (of as_args rest) rest))
 needs_expr l.TypedBinary =
     of as_expr (either_of (leaf (either_of (leaf rest) (of as_type rest) rest)) (binary (of as_expr rest)) rest)
+needs_expr l.TypeAssertion = either_of (leaf rest) (of as_type rest) (of as_expr rest)
 needs_expr l.TypedParenthesizedArrow =
     maybe (of as_type_params rest)
     (of as_params (maybe (of as_type rest) (either_of (of as_block rest) (of as_expr rest) rest)))

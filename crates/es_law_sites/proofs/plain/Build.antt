@@ -35,7 +35,7 @@ use Rattle.es_law_sites.proofs.plain.More.{word_is, number_is, regexp_is, templa
 use Rattle.es_law_sites.proofs.plain.Modules.{attributes_is, bare_import_is, from_import_is, phase_import_is, require_import_is, entity_import_is, export_all_is, export_names_is, export_namespace_is, export_default_decl_is, export_default_expression_is, export_declaration_is, export_assignment_is, module_is, script_is, item_by_is}
 use Rattle.es_law_sites.proofs.plain.Stmts.{block_is, declarator_is, bare_declarator_is, variables_is, using_is, variable_declaration_is, variable_head_is, using_head_is, for_each_is, for_await_is, while_is, do_is, expression_statement_is, labelled_is, if_is, continue_is, break_is, throw_is, with_is, return_is, switch_is, for_is, try_is}
 use Rattle.es_law_sites.proofs.plain.Patterns.{param_is, prop_by, name_pattern_is, array_pattern_is, object_pattern_is, rest_pattern_is, default_pattern_is, rest_property_is, key_pattern_is, name_property_is, default_parameter_is, parameters_is, signature_is, function_made_is, name_arrow_is, parenthesized_arrow_is, number_key_is, private_key_is, spread_property_is, method_property_is, class_made_is, static_block_is, method_member_is, accessor_member_is, field_member_is}
-use Rattle.es_law_sites.proofs.plain.Typed.{marked_name_is, marked_array_is, marked_object_is, marked_parameter_is, property_parameter_is, this_parameter_is, typed_parameters_is, typed_signature_is, typed_function_is, typed_arrow_is, typed_method_property_is, typed_class_is, typed_method_member_is, typed_accessor_member_is, typed_field_is, index_member_is, typed_call_post_is, typed_template_post_is, non_null_post_is, typed_new_is, typed_declarator_is, typed_head_is, interface_is, alias_is, enum_is, namespace_is, module_namespace_is, global_is, declared_is, declared_variables_is, typed_optional_post_is, typed_binary_is, typed_try_is}
+use Rattle.es_law_sites.proofs.plain.Typed.{marked_name_is, marked_array_is, marked_object_is, marked_parameter_is, property_parameter_is, this_parameter_is, typed_parameters_is, typed_signature_is, typed_function_is, typed_arrow_is, typed_method_property_is, typed_class_is, typed_method_member_is, typed_accessor_member_is, typed_field_is, index_member_is, typed_call_post_is, typed_template_post_is, non_null_post_is, typed_new_is, typed_declarator_is, typed_head_is, interface_is, alias_is, enum_is, namespace_is, module_namespace_is, global_is, declared_is, declared_variables_is, typed_optional_post_is, typed_binary_is, type_assertion_is, typed_try_is}
 
 module _ (x : List ℕ) (ts : List Token) where
   expr_law : (label : NodeKind) (from : ℕ) (r : Range) (p : Value) (q : Part) → Is x ts p q
@@ -118,14 +118,15 @@ module _ (x : List ℕ) (ts : List Token) where
       expr_by x ts l.AbstractClass q _ (vExpr.Class it) (Expr-F.Expr::Class it) (vExpr.rolls-Class it)
       (expr_Class [] it ∙ g) refl refl refl)) (if_at x ts P label l.TypedNew _ _
       (typed_new_is x ts r p q h) (if_at x ts P label l.TypedBinary _ _
-      (typed_binary_is x ts r p q h) (if_at x ts P label l.TypedParenthesizedArrow _ _
+      (typed_binary_is x ts r p q h) (if_at x ts P label l.TypeAssertion _ _
+      (type_assertion_is x ts r p q h) (if_at x ts P label l.TypedParenthesizedArrow _ _
       (typed_arrow_is x ts r p q h l.TypedParenthesizedArrow false
       (λ it g. expr_by x ts l.TypedParenthesizedArrow q _ (vExpr.Arrow it) (Expr-F.Arrow it) (vExpr.rolls-Arrow it)
       (expr_Arrow [] it ∙ g) refl refl refl)) (if_at x ts P label l.TypedAsyncParenthesizedArrow _ _
       (typed_arrow_is x ts r p q h l.TypedAsyncParenthesizedArrow true
       (λ it g. expr_by x ts l.TypedAsyncParenthesizedArrow q _ (vExpr.Arrow it) (Expr-F.Arrow it)
       (vExpr.rolls-Arrow it) (expr_Arrow [] it ∙ g) refl refl refl))
-      (tt)))))))))))))))))))))))))))))))))))))))))))))
+      (tt))))))))))))))))))))))))))))))))))))))))))))))
 
   pat_law : (label : NodeKind) (from : ℕ) (r : Range) (p : Value) (q : Part) → Is x ts p q
       → Opt ((λ (k : NodeKind). Of sites_of_pat (own x ts k q)) label) (pat_of x ts label from r p)

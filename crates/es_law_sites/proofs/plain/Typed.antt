@@ -145,6 +145,20 @@ module _ (x : List ℕ) (ts : List Token) where
       (λ start e. expr_Index [] e true i _ ∙ ap (λ s. sites_of_expr e ++ s) f)
       (λ start e. refl) (λ start e. refl) (λ start e. refl))
 
+  -- ---- `<a>b`
+  before_is : (q : Part) (r : Range) (it : Expr) (s : Found) → sites_of_expr it ≡ s → (a : Value)
+      → Opt (ExprIs x ts l.TypeAssertion q s) (e.asserted_by r it k.AsWord a)
+  before_is q r it s g (v.token n) =
+      expr_by x ts l.TypeAssertion q _ (vExpr.TsConstAssertion it r) (Expr-F.TsConstAssertion it r)
+      (vExpr.rolls-TsConstAssertion it r) (expr_TsConstAssertion [] it r ∙ g) refl refl refl
+  before_is q r it s g (v.node from to m) =
+      map_any (ExprIs x ts l.TypeAssertion q s) m.ts_type _ (λ ty.
+      expr_by x ts l.TypeAssertion q _ (vExpr.TsAs it (Some (vPart.TypeAnn ty)) r) (Expr-F.TsAs it (Some (vPart.TypeAnn ty)) r)
+      (vExpr.rolls-TsAs it (Some (vPart.TypeAnn ty)) r) (expr_TsAs [] it (Some (vPart.TypeAnn ty)) r ∙ g) refl refl refl)
+  before_is q r it s g v.absent = tt
+  before_is q r it s g v.nil = tt
+  before_is q r it s g (v.more a b) = tt
+
   -- ---- `as` and `satisfies`
   Tb : Part → Found → Expr → Type 0
   Tb q s it = ExprIs x ts l.TypedBinary q s it
@@ -540,6 +554,12 @@ module _ (x : List ℕ) (ts : List Token) where
     typed_optional_post_is =
         optional_is r (v.part (v.group p 0) 0) (part (group q 0) 0)
         (part_is x ts (v.group p 0) (group q 0) 0 (group_is x ts p q 0 h))
+
+    pub type_assertion_is : Opt (Ex x ts l.TypeAssertion q) (e.type_assertion r p)
+    unfolding e.type_assertion
+    type_assertion_is =
+        given_fine (Of sites_of_expr (at q 1)) _ (v.expr_at p 1) _ (expr_in x ts 1 p q h) (λ it g.
+        before_is q r it (at q 1) g (v.part (v.group p 0) 0))
 
     pub typed_binary_is : Opt (Ex x ts l.TypedBinary q) (e.typed_binary ts r p)
     unfolding e.typed_binary Tb

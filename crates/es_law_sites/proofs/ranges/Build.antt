@@ -24,7 +24,7 @@ use Rattle.es_law_sites.proofs.ranges.Fine.{ProgramCuts, KeyCuts, HeadCuts, Vari
 use Rattle.es_law_sites.proofs.ranges.Exprs.{name_cuts, word_cuts, number_cuts, str_cuts, regexp_cuts, template_cuts, template_parts_cuts, parenthesized_cuts, array_literal_cuts, object_literal_cuts, spread_cuts, import_call_cuts, new_cuts, chain_cuts, update_prefix_cuts, update_postfix_cuts, prefix_cuts, await_cuts, binary_cuts, private_in_cuts, conditional_cuts, assignment_cuts, pattern_assignment_cuts, yield_cuts, sequence_cuts, member_post_cuts, index_post_cuts, call_post_cuts, template_post_cuts, optional_post_cuts, arguments_cuts}
 use Rattle.es_law_sites.proofs.ranges.Patterns.{name_pattern_cuts, array_pattern_cuts, object_pattern_cuts, rest_pattern_cuts, default_pattern_cuts, rest_property_cuts, key_pattern_cuts, name_property_cuts, default_parameter_cuts, parameters_cuts, signature_cuts, function_made_cuts, name_arrow_cuts, parenthesized_arrow_cuts, word_key_cuts, str_key_cuts, number_key_cuts, computed_key_cuts, private_key_cuts, spread_property_cuts, shorthand_cuts, key_value_cuts, method_property_cuts, accessor_property_cuts, class_made_cuts, static_block_cuts, method_member_cuts, accessor_member_cuts, field_member_cuts, param_of_cuts as pat_param_cuts}
 use Rattle.es_law_sites.proofs.ranges.Stmts.{block_cuts, declarator_cuts, bare_declarator_cuts, variables_cuts, using_cuts, variable_declaration_cuts, variable_head_cuts, using_head_cuts, for_cuts, for_each_cuts, for_await_cuts, while_cuts, do_cuts, expression_statement_cuts, labelled_cuts, if_cuts, continue_cuts, break_cuts, return_cuts, throw_cuts, switch_cuts, try_cuts, with_cuts, decl_of_cuts as variables_decl_cuts}
-use Rattle.es_law_sites.proofs.ranges.Typed.{alias_cuts, declared_cuts, declared_variables_cuts, enum_cuts, export_assignment_cuts, global_cuts, index_member_cuts, interface_cuts, marked_array_cuts, marked_name_cuts, marked_object_cuts, marked_parameter_cuts, module_namespace_cuts, namespace_cuts, non_null_post_cuts, property_parameter_cuts, this_parameter_cuts, typed_accessor_member_cuts, typed_accessor_property_cuts, typed_arrow_cuts, typed_binary_cuts, typed_call_post_cuts, typed_class_cuts, typed_declarator_cuts, typed_field_cuts, typed_function_cuts, typed_head_cuts, typed_method_member_cuts, typed_method_property_cuts, typed_new_cuts, typed_optional_post_cuts, typed_parameters_cuts, typed_signature_cuts, typed_template_post_cuts, typed_try_cuts}
+use Rattle.es_law_sites.proofs.ranges.Typed.{alias_cuts, declared_cuts, declared_variables_cuts, enum_cuts, export_assignment_cuts, global_cuts, index_member_cuts, interface_cuts, marked_array_cuts, marked_name_cuts, marked_object_cuts, marked_parameter_cuts, module_namespace_cuts, namespace_cuts, non_null_post_cuts, property_parameter_cuts, this_parameter_cuts, typed_accessor_member_cuts, typed_accessor_property_cuts, typed_arrow_cuts, typed_binary_cuts, type_assertion_cuts, typed_call_post_cuts, typed_class_cuts, typed_declarator_cuts, typed_field_cuts, typed_function_cuts, typed_head_cuts, typed_method_member_cuts, typed_method_property_cuts, typed_new_cuts, typed_optional_post_cuts, typed_parameters_cuts, typed_signature_cuts, typed_template_post_cuts, typed_try_cuts}
 use Rattle.es_law_sites.proofs.ranges.Modules.{bare_import_cuts, from_import_cuts, phase_import_cuts, require_import_cuts, entity_import_cuts, export_all_cuts, export_names_cuts, export_namespace_cuts, export_default_decl_cuts, export_default_expression_cuts, export_declaration_cuts, item_by_cuts, module_cuts, script_cuts}
 
 -- the literals that name modules, and those that are expressions or keys, are cut
@@ -104,10 +104,11 @@ module _ (x : List ℕ) (ts : List Token) where
       (typed_class_cuts x ts true r p fine) (expr_Class_cuts x))
       (if_fine (ExprCuts x) (same_label label l.TypedNew) _ _ (λ e. typed_new_cuts x ts r p fine)
       (if_fine (ExprCuts x) (same_label label l.TypedBinary) _ _ (λ e. typed_binary_cuts x ts r p fine)
+      (if_fine (ExprCuts x) (same_label label l.TypeAssertion) _ _ (λ e. type_assertion_cuts x ts r p fine)
       (if_fine (ExprCuts x) (same_label label l.TypedParenthesizedArrow) _ _ (λ e. typed_arrow_cuts x ts false r p fine)
       (if_fine (ExprCuts x) (same_label label l.TypedAsyncParenthesizedArrow) _ _
       (λ e. typed_arrow_cuts x ts true r p fine)
-      (tt)))))))))))))))))))))))))))))))))))))))))))))
+      (tt))))))))))))))))))))))))))))))))))))))))))))))
 
   pat_of_cuts : (label : NodeKind) (from : ℕ) (r : Range) (p : Value) → Fine x p
       → Opt (PatCuts x) (pat_of x ts label from r p)

@@ -27,7 +27,7 @@ use Rattle.es_lowering.specs.TypeTexts.{marked}
 use Rattle.es_lowering.specs.TypeNames.{behind_in}
 use Rattle.es_lowering.specs.TypedParts.{annotation_at, params_part_at, args_part_at, heritage_in, marked_name, marked_array, marked_object, marked_by, annotated_span, annotated_at, modifiers_in, param_by, typed_span, tailed_span, tailed_at, marked_parameter, property_parameter, this_parameter, typed_rest_at, typed_parameters, typed_signature, body_in, behind_body}
 use Rattle.es_lowering.specs.TypedFunctions.{typed_function_of, typed_function, typed_arrow, typed_method_property, typed_accessor_property, typed_class, typed_method_member, typed_accessor_member, with_accessor, is_mark, typed_field, index_member}
-use Rattle.es_lowering.specs.TypedExpressions.{typed_call_of, typed_call, typed_call_post, typed_tagged_of, typed_template_post, non_null_post, typed_optional_inner, typed_optional_of, typed_optional_post, typed_new_of, typed_new, asserted_by, turned_by, typed_binary}
+use Rattle.es_lowering.specs.TypedExpressions.{typed_call_of, typed_call, typed_call_post, typed_tagged_of, typed_template_post, non_null_post, typed_optional_inner, typed_optional_of, typed_optional_post, typed_new_of, typed_new, asserted_by, type_assertion, turned_by, typed_binary}
 use Rattle.es_lowering.specs.TypedStatements.{typed_declarator, typed_head, caught_in, typed_handled, typed_try, interface, alias, enum_member, enum_, items_of, namespace, module_namespace, global, declared, declared_variables, export_assignment}
 use Rattle.es_law_sites.proofs.ranges.Cuts.{Each, Opt, ExprCuts, PatCuts, PatPropCuts, PropCuts, StmtCuts, DeclCuts, ItemCuts, ModuleDeclCuts, ParamCuts, FunctionCuts, ClassCuts, MemberCuts, DeclaratorCuts, EnumMemberCuts, class_cuts, function_cuts, param_cuts, ts_enum_member_cuts, var_declarator_cuts}
 use Rattle.es_law_sites.proofs.ranges.Forms.{pat_Ident_cuts, pat_This_cuts, pat_Hole_cuts, pat_Array_cuts, pat_Object_cuts, pat_Rest_cuts, prop_Method_cuts, class_member_Method_cuts, class_member_Prop_cuts, class_member_TsIndexSignature_cuts, decl_Var_cuts, decl_TsInterface_cuts, decl_TsTypeAlias_cuts, decl_TsEnum_cuts, decl_TsNamespace_cuts, decl_TsModule_cuts, decl_TsGlobal_cuts, module_decl_TsExportAssignment_cuts, expr_Arrow_cuts, expr_Bin_cuts, expr_Call_cuts, expr_New_cuts, expr_TaggedTpl_cuts, expr_TsNonNull_cuts, expr_TsAs_cuts, expr_TsConstAssertion_cuts, expr_TsSatisfies_cuts, stmt_Try_cuts}
@@ -360,6 +360,12 @@ module _ (x : List ℕ) (ts : List Token) where
   asserted_cuts r e kind absent f = tt
   asserted_cuts r e kind nil f = tt
   asserted_cuts r e kind (more v vs) f = tt
+
+  pub type_assertion_cuts : (r : Range) (p : Value) → Fine x p → Opt (ExprCuts x) (type_assertion r p)
+  unfolding type_assertion
+  type_assertion_cuts r p fine =
+      given_fine (ExprCuts x) (ExprCuts x) (expr_at p 1) _ (expr_fine x p 1 fine) (λ e f.
+      asserted_cuts r e k.AsWord (part (group p 0) 0) f)
 
   operated_cuts : (r : Range) (e : Expr) (from to : ℕ) (g : Value) → ExprCuts x e → Fine x g
       → Opt (ExprCuts x) (given (binary_between ts from to) (λ op.

@@ -225,6 +225,7 @@ module _ (x : List ℕ) (ts : List Token) where
   own l.TypedClass p = may p 2 ++ turns p 4 0
   own l.AbstractClass p = may p 2 ++ turns p 4 0
   own l.TypedNew p = at p 0 ++ may p 2
+  own l.TypeAssertion p = at p 1
   own l.TypedBinary p = at p 0 ++ operand (group p 1) (part (group p 1) 1)
   own l.TypedParenthesizedArrow p = at p 1 ++ at (group p 3) 0
   own l.TypedAsyncParenthesizedArrow p = at p 1 ++ at (group p 3) 0

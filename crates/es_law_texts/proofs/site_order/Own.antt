@@ -276,6 +276,7 @@ module _ (x : List ℕ) (ts : List Token) where
   own_on l.TypedClass a b p h = all (two (may_run h 2) (turns_run h 4 0) refl)
   own_on l.AbstractClass a b p h = all (two (may_run h 2) (turns_run h 4 0) refl)
   own_on l.TypedNew a b p h = all (two (at_run h 0) (may_run h 2) refl)
+  own_on l.TypeAssertion a b p h = all (at_run h 1)
   own_on l.TypedBinary a b p h = all (two (at_run h 0) (operand_run h 1) refl)
   own_on l.TypedParenthesizedArrow a b p h = all (two (at_run h 1) (at_in h 3 0) refl)
   own_on l.TypedAsyncParenthesizedArrow a b p h = all (two (at_run h 1) (at_in h 3 0) refl)

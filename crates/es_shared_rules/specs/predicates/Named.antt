@@ -13,7 +13,7 @@ use Rattle.es_lookahead.specs.declared.named.Kinds.TheVariants as plain_kinds
 use Rattle.es_lookahead.specs.declared.named.Lookahead.TheVariants as plain_lookahead
 use Rattle.es_lookahead.specs.declared.named.Predicate.TheVariants as plain_predicate
 use Rattle.es_grammar.specs.Embedding.{opens_call_arguments, opens_heritage_arguments}
-use Rattle.es_grammar.specs.Expressions.{is_assertion_word, opens_new_arguments, opens_class_name, is_tight, comes_behind, is_tightest, begins_parameters, begins_arguments, begins_callee_post, opens_operand, opens_assertion, opens_non_null, opens_any_arrow, opens_async_here, opens_async_list, opens_arrow_result, opens_no_arrow, opens_post, opens_call, opens_typed_template, opens_shift_in, opens_comparison, is_behind_as, opens_abstract_class, may_await, may_test, is_module}
+use Rattle.es_grammar.specs.Expressions.{is_assertion_word, opens_new_arguments, opens_class_name, is_tight, comes_behind, is_tightest, begins_parameters, begins_arguments, begins_callee_post, opens_operand, opens_assertion, opens_non_null, opens_any_arrow, opens_async_here, opens_async_list, opens_arrow_result, opens_no_arrow, opens_post, opens_call, opens_typed_template, opens_shift_in, opens_comparison, is_behind_as, opens_abstract_class, may_await, may_test, is_module, no_assignment}
 use Rattle.es_grammar.specs.Functions.{is_typed_modifier, is_modifier, opens_parameter_modifier, each_once, opens_marked, opens_typed_method, opens_any_method}
 use Rattle.es_grammar.specs.Classes.{opens_modifier, behind_all, is_member_key, is_field_mark}
 use Rattle.es_grammar.specs.Statements.{begins_value_here, is_script, opens_declarator, opens_initial}
@@ -149,6 +149,7 @@ predicate_of predicate.OpensArrow = plain.predicate_of plain_predicate.OpensArro
 predicate_of predicate.OpensAsyncArrow = plain.predicate_of plain_predicate.OpensAsyncArrow
 predicate_of predicate.OpensPattern = plain.predicate_of plain_predicate.OpensPattern
 predicate_of predicate.OpensAssignment = plain.predicate_of plain_predicate.OpensAssignment
+predicate_of predicate.NoAssignment = no_assignment
 predicate_of (predicate.Joins kind) = plain.predicate_of (plain_predicate.Joins kind)
 predicate_of (predicate.OpensAnyArrow l c) = opens_any_arrow l c
 predicate_of (predicate.OpensAsyncHere l c) = opens_async_here l c

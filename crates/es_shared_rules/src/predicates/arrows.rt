@@ -3,7 +3,7 @@
 ghost use Rattle.std.specs.Prelude.{◌≡◌};
 ghost use Rattle.grammar_theory.specs.Key.{keys_of};
 ghost use Rattle.es_grammar.specs.types.Words.{closes_before};
-ghost use Rattle.es_grammar.specs.Expressions.{follows_parameters, opens_parameters_of_arrow, opens_arrow_here, opens_generic_async, opens_async_here, opens_any_arrow, opens_arrow_result, opens_async_list, opens_no_arrow};
+ghost use Rattle.es_grammar.specs.Expressions.{follows_parameters, opens_parameters_of_arrow, opens_arrow_here, opens_generic_async, opens_generic, opens_async_here, opens_any_arrow, opens_arrow_result, opens_async_list, opens_no_arrow};
 
 use crate::predicates::arguments::parameters_end;
 use crate::predicates::looks::{has_name, is, is_arrow, is_near};
@@ -34,15 +34,38 @@ fn opens_parameters_of_arrow(tokens: &Tokens<'_>, context: Context, at: usize) -
     tokens.sees(TokenKind::OpenParen, at) && closes_parameters(tokens, context, at)
 }
 
-/// An arrow of either language begins here, but for `async`.
+/// `<` before an arrow's parameters.
+fn opens_generic(
+    tokens: &Tokens<'_>,
+    alloc: Global,
+    lang: Lang,
+    context: Context,
+    at: usize,
+) -> bool
+    ensures { result ≡ opens_generic lang context (keys_of tokens.now.tokens.now) at }
+{
+    if lang.has_assertions() {
+        opens_generic_async(tokens, alloc, context, at)
+    } else {
+        tokens.sees(TokenKind::Less, at)
+    }
+}
+
+/// An arrow begins here, but for `async`.
 #[tactic(auto, unfolding(es_grammar::specs::Expressions::opens_arrow_here))]
-fn opens_arrow_here(tokens: &Tokens<'_>, lang: Lang, context: Context, at: usize) -> bool
+fn opens_arrow_here(
+    tokens: &Tokens<'_>,
+    alloc: Global,
+    lang: Lang,
+    context: Context,
+    at: usize,
+) -> bool
     ensures { result ≡ opens_arrow_here lang context (keys_of tokens.now.tokens.now) at }
 {
     if lang.is_typed() {
         (tokens.sees_name(at) && is_arrow(tokens.seen_after(at, 1)))
             || opens_parameters_of_arrow(tokens, context, at)
-            || tokens.sees(TokenKind::Less, at)
+            || opens_generic(tokens, alloc, lang, context, at)
     } else {
         tokens.opens_plain_arrow(at)
     }
@@ -100,7 +123,7 @@ pub fn opens_any_arrow(
 ) -> bool
     ensures { result ≡ opens_any_arrow lang context (keys_of tokens.now.tokens.now) at }
 {
-    opens_arrow_here(tokens, lang, context, at)
+    opens_arrow_here(tokens, alloc, lang, context, at)
         || opens_async_here(tokens, alloc, lang, context, at)
 }
 

@@ -82,7 +82,7 @@ fn sees_other(tokens: &Tokens<'_>, lookahead: Lookahead, at: usize) -> bool
 }
 
 /// Whether the predicate holds at this place.
-#[tactic(auto, unfolding(es_grammar::specs::Expressions::opens_typed_template, es_grammar::specs::Expressions::may_await, es_grammar::specs::Expressions::may_test, es_grammar::specs::Expressions::is_module, es_grammar::specs::Statements::is_script))]
+#[tactic(auto, unfolding(es_grammar::specs::Expressions::opens_typed_template, es_grammar::specs::Expressions::no_assignment, es_grammar::specs::Expressions::may_await, es_grammar::specs::Expressions::may_test, es_grammar::specs::Expressions::is_module, es_grammar::specs::Statements::is_script))]
 #[inline(always)]
 pub fn holds(tokens: &Tokens<'_>, alloc: Global, predicate: Predicate, at: usize) -> bool
     ensures { result ≡ predicate_of predicate (keys_of tokens.now.tokens.now) at }
@@ -178,6 +178,7 @@ pub fn holds(tokens: &Tokens<'_>, alloc: Global, predicate: Predicate, at: usize
         Predicate::OpensAsyncArrow => tokens.opens_async_arrow(at),
         Predicate::OpensPattern => tokens.opens_pattern(at),
         Predicate::OpensAssignment => tokens.opens_assignment(at),
+        Predicate::NoAssignment => !tokens.opens_assignment(at),
         Predicate::Joins(kind) => tokens.joins(kind, at),
         Predicate::OpensAnyArrow(lang, context) => arrows::opens_any_arrow(
             tokens, alloc, lang, context, at,

@@ -121,6 +121,7 @@ pub enum Predicate {
     OpensAsyncArrow,
     OpensPattern,
     OpensAssignment,
+    NoAssignment,
     Joins(TokenKind),
     // Arrows.
     OpensAnyArrow(Lang, Context),

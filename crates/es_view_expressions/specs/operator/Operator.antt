@@ -2,6 +2,7 @@
 use Rattle.std.specs.Prelude.{ℕ, true, false, List, [], ◌∷◌, Option, Some, None, option_map, slice_get}
 use Rattle.base.specs.declared.range.Range.{Range}
 use Rattle.es_token.specs.declared.token.Token.{Token}
+use Rattle.es_token.specs.declared.token.TokenKind.TheVariants as k
 use Rattle.es_grammar.specs.declared.rows.NodeKind.{NodeKind}
 use Rattle.es_grammar.specs.declared.rows.NodeKind.TheVariants as l
 use Rattle.es_ast.specs.declared.leaf.AssignOp.TheVariants as vAssign
@@ -14,7 +15,7 @@ use Rattle.es_lowering.specs.Value.{Value, given, first_of, behind, part, turns,
 use Rattle.es_lowering.specs.Texts.{private_of}
 use Rattle.es_lowering.specs.Operators.{listed, unary_ops, update_ops, binary_between, assign_between}
 use Rattle.es_lowering.specs.Expressions.{yield_of}
-use Rattle.es_lowering.specs.TypedExpressions.{turned_by}
+use Rattle.es_lowering.specs.TypedExpressions.{asserted_by, turned_by}
 use Rattle.es_syntax.specs.declared.cursor.Siblings.{Siblings}
 use Rattle.es_syntax.specs.Held.{held, valued}
 use Rattle.es_syntax.specs.Roles.{expr_in, pat_in}
@@ -26,7 +27,8 @@ use Rattle.es_view_expressions.specs.declared.operator.operator.Operator.TheVari
 abbrev pub operators : List NodeKind
 operators =
     l.UpdatePrefix ∷ l.UpdatePostfix ∷ l.UnaryExpression ∷ l.AwaitExpression ∷ l.Binary ∷ l.PrivateIn ∷ l.Conditional
-    ∷ l.Assignment ∷ l.PatternAssignment ∷ l.Yield ∷ l.TypedBinary ∷ l.Sequence ∷ []
+    ∷ l.Assignment ∷ l.PatternAssignment ∷ l.Yield ∷ l.TypedBinary ∷ l.TypeAssertion ∷ l.Sequence
+    ∷ []
 
 -- ---- each form, of what its parts are
 unfoldable pub updated_prefix : Range → Option Token → Option Expr → Option Expr
@@ -82,6 +84,10 @@ yielded r arg = yield_of r arg
 unfoldable pub turned : List Token → Range → ℕ → Option Expr → Value → Option Expr
 turned ts r from left turn = given left (λ left. turned_by ts r left from turn (part turn 1))
 
+-- behind a type, or `const`
+unfoldable pub asserted : Range → Value → Option Expr → Option Expr
+asserted r type_ arg = given arg (λ arg. asserted_by r arg k.AsWord (part type_ 0))
+
 unfoldable pub sequence : Range → Option Expr → Option Expr → Value → Option Expr
 sequence r first second others =
     given first (λ first.
@@ -108,6 +114,8 @@ the_operator x ts r (view.PatternAssignment left right) =
 the_operator x ts r (view.Yield arg) = yielded r (held x ts arg.entries.now)
 the_operator x ts r (view.TypedBinary left turn) =
     turned ts r (behind (valued x ts left)) (expr_in (valued x ts left)) (held x ts turn.entries.now)
+the_operator x ts r (view.TypeAssertion type_ arg) =
+    asserted r (held x ts type_.entries.now) (expr_in (valued x ts arg))
 the_operator x ts r (view.Sequence first second others) =
     sequence r (expr_in (valued x ts first)) (expr_in (valued x ts second)) (held x ts others.entries.now)
 the_operator x ts r view.Broken = None
@@ -125,5 +133,6 @@ IsBelow n (view.Assignment left right) = Under left n × Under right n
 IsBelow n (view.PatternAssignment left right) = Under left n × Under right n
 IsBelow n (view.Yield arg) = Within arg n
 IsBelow n (view.TypedBinary left turn) = Under left n × Within turn n
+IsBelow n (view.TypeAssertion type_ arg) = Within type_ n × Under arg n
 IsBelow n (view.Sequence first second others) = Under first n × Under second n × Within others n
 IsBelow n view.Broken = Unit {0}

@@ -4,7 +4,7 @@ ghost use Rattle.std.specs.Prelude.{◌≡◌, ℕ, List, IfSome, IfNone};
 ghost use Rattle.base.specs.declared.range.Range.{Range};
 ghost use Rattle.es_token.specs.declared.token.Token.{Token as Tok};
 ghost use Rattle.es_lowering.specs.Expressions.{prefix, update_prefix, update_postfix, await_, binary, private_in, conditional, assignment, pattern_assignment, yield_, sequence};
-ghost use Rattle.es_lowering.specs.TypedExpressions.{typed_binary};
+ghost use Rattle.es_lowering.specs.TypedExpressions.{typed_binary, type_assertion};
 ghost use Rattle.es_lowering.specs.Texts.{span_of};
 ghost use Rattle.es_syntax.specs.Held.{held, valued};
 ghost use Rattle.es_syntax.specs.Roles.{expr_in};
@@ -66,6 +66,11 @@ pub enum Operator<'a> {
     TypedBinary {
         left: Item<'a>,
         turn: Siblings<'a>,
+    },
+    /// `<T>a`: a group of the type or of `const`, and the operand.
+    TypeAssertion {
+        asserted: Siblings<'a>,
+        arg: Item<'a>,
     },
     /// `a, b, c`: the first two, and turns of one each.
     Sequence {
@@ -236,6 +241,21 @@ fn typed_binary<'a>(parts: &Siblings<'a>) -> Operator<'a>
     }
 }
 
+/// `<T>a`: a group of the type or of `const`, and the operand.
+#[tactic(auto, unfolding(es_lowering::specs::TypedExpressions::type_assertion, crate::specs::operator::Operator::asserted))]
+fn type_assertion<'a>(parts: &Siblings<'a>) -> Operator<'a>
+    ensures form { (x : List ℕ) (ts : List Tok) (r : Range) → type_assertion r (held x ts parts.now.entries.now) ≡ the_operator x ts r result }
+    ensures below { IsBelow parts.now result }
+{
+    match parts.part(1) {
+        Some(arg) => Operator::TypeAssertion {
+            asserted: parts.group_at(0),
+            arg,
+        },
+        None => Operator::Broken,
+    }
+}
+
 /// `a, b, c`: the first two, and turns of one each.
 #[tactic(auto, unfolding(es_lowering::specs::Expressions::sequence, crate::specs::operator::Operator::sequence))]
 fn sequence<'a>(parts: &Siblings<'a>) -> Operator<'a>
@@ -275,6 +295,7 @@ pub fn operator_at<'a>(node: &Item<'a>) -> Option<Operator<'a>>
             NodeKind::PatternAssignment => Some(pattern_assignment(&node.parts)),
             NodeKind::Yield => Some(yield_(&node.parts)),
             NodeKind::TypedBinary => Some(typed_binary(&node.parts)),
+            NodeKind::TypeAssertion => Some(type_assertion(&node.parts)),
             NodeKind::Sequence => Some(sequence(&node.parts)),
             _ => None,
         },

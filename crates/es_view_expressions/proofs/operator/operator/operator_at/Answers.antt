@@ -22,6 +22,7 @@ returns-in_default c =
         other label l.PatternAssignment c.in_default.not-PatternAssignment,
         other label l.Yield c.in_default.not-Yield,
         other label l.TypedBinary c.in_default.not-TypedBinary,
+        other label l.TypeAssertion c.in_default.not-TypeAssertion,
         other label l.Sequence c.in_default.not-Sequence,
       ) refl;
       below = tt;
