@@ -49,12 +49,16 @@ pub data IsRefused (lang : Lang) (modes : List Mode) (text : List ℕ) (kind : S
 
 -- ---- a source of a media type
 
--- its sites: reference comments come first, then those of its tree
-pub record HasSites (media : MediaType) (text : List ℕ) (found : List Site) : Type 0 where
+-- its sites in this language: reference comments come first, then those of its tree
+pub record HasSitesIn (lang : Lang) (media : MediaType) (text : List ℕ) (found : List Site) : Type 0 where
   pub tree : Program
   pub references : List Site
-  pub read : IsRead (language_of media) (modes_of media) media text tree references
+  pub read : IsRead lang (modes_of media) media text tree references
   pub both : found ≡ references ++ sites_of tree
+
+-- its sites in the language of the media type
+abbrev pub HasSites : MediaType → List ℕ → List Site → Type 0
+HasSites media text found = HasSitesIn (language_of media) media text found
 
 -- it is no program
 abbrev pub IsFaulty : MediaType → List ℕ → SyntaxErrorKind → Option Range → Type 0

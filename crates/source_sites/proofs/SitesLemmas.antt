@@ -29,8 +29,8 @@ use Rattle.es_law_programs.proofs.sites.Theorems.{kept_sites}
 use Rattle.es_law_programs.proofs.both_sites.Theorems.{derives_or_not, same_sites}
 use Rattle.media_type.specs.declared.media_type.MediaType.{MediaType}
 use Rattle.source_reading.specs.Tree.{IsFirstTree}
-use Rattle.source_reading.specs.Read.{references_in, HasSites}
-use Rattle.source_sites.specs.Answers.{AreOf, AreSitesOf, GivesSites}
+use Rattle.source_reading.specs.Read.{references_in, HasSitesIn}
+use Rattle.source_sites.specs.Answers.{AreOf, AreSitesIn, GivesSites}
 use Rattle.source_reading.proofs.TreeLemmas.{first_once}
 
 -- what holds of the trees of these sites
@@ -112,10 +112,10 @@ module _ (lang : Lang) (text : List ℕ) (tokens : List Token) where
   only_given m r p one (inr is) = absurd is.1
 
 -- reference comments come first
-pub has_sites : (media : MediaType) (text : List ℕ) (tokens : List Token) (comments : List Comment)
-    (found all : List Site) → Reads text tokens comments → AreSitesOf media text tokens found
-    → all ≡ references_in media tokens comments ++ found → HasSites media text all
-has_sites media text tokens comments found all reads of both = record {
+pub has_sites : (lang : Lang) (media : MediaType) (text : List ℕ) (tokens : List Token) (comments : List Comment)
+    (found all : List Site) → Reads text tokens comments → AreSitesIn lang media text tokens found
+    → all ≡ references_in media tokens comments ++ found → HasSitesIn lang media text all
+has_sites lang media text tokens comments found all reads of both = record {
   tree = of.tree;
   references = references_in media tokens comments;
   read = record { tokens = tokens; comments = comments; reads = reads; is_tree = of.is; refers = refl };

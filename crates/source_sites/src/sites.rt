@@ -11,10 +11,11 @@ ghost use Rattle.es_lowering.specs.derives.Derives.{Derives};
 ghost use Rattle.es_syntax.specs.Trees.{trees};
 ghost use Rattle.es_law_sites.specs.plain.Own.{plain_sites};
 ghost use Rattle.parse_diagnostic.specs.Diagnosis.{IsDiagnosis};
+ghost use Rattle.source_reading.specs.Tree as spec;
 ghost use Rattle.source_reading.specs.Tree.{IsFirstTree, IsTree};
-ghost use Rattle.source_reading.specs.Read.{references_in as refers, HasSites};
-ghost use Rattle.source_reading.specs.Fault.{IsFaultAt, Refuses};
-ghost use Rattle.source_sites.specs.Answers.{AreOf, AreSitesOf, GivesSites};
+ghost use Rattle.source_reading.specs.Read.{references_in as refers, HasSites, HasSitesIn};
+ghost use Rattle.source_reading.specs.Fault.{IsFaultIn, IsFaultAt, Refuses};
+ghost use Rattle.source_sites.specs.Answers.{AreOf, AreSitesOf, AreSitesIn, GivesSites};
 ghost use Rattle.source_sites.specs.Modes.{modes_in};
 
 use crate::fault::{lexical_fault, syntax_fault};
@@ -46,8 +47,26 @@ pub fn read_sites(
     // A refusal, but for memory, is its fault.
     ensures refused { IfErr result (Refuses (IsFaultAt (serialize specifier.now) media_type text.now)) }
 {
+    let lang = language_of(media_type);
+    read_sites_in(alloc, specifier, text, lang, media_type)
+}
+
+/// The same in a language that the caller names. The media type tells whether it may be a module or a script, and whether its
+/// comments refer.
+pub fn read_sites_in(
+    alloc: Global,
+    specifier: &Url,
+    text: &SourceText,
+    lang: Lang,
+    media_type: MediaType,
+) -> Result<Items<Site>, ParseFault>
+    // What is answered are its sites in that language.
+    ensures found { IfOk result (HasSitesIn lang media_type text.now) }
+    // A refusal, but for memory, is its fault.
+    ensures refused { IfErr result (Refuses (IsFaultIn (serialize specifier.now) lang (spec.modes_of media_type) text.now)) }
+{
     match lex_tokens(alloc, text.as_str()) {
-        Ok(lexed) => sites_of_lexed(alloc, specifier, text, media_type, lexed),
+        Ok(lexed) => sites_of_lexed(alloc, specifier, text, lang, media_type, lexed),
         Err(error) => Err(lexical_fault(alloc, specifier, text, error)),
     }
 }
@@ -56,15 +75,16 @@ fn sites_of_lexed(
     alloc: Global,
     specifier: &Url,
     text: &SourceText,
+    lang: Lang,
     media_type: MediaType,
     lexed: Lexed,
 ) -> Result<Items<Site>, ParseFault>
     requires { Reads text.now lexed.tokens lexed.comments }
-    ensures found { IfOk result (HasSites media_type text.now) }
-    ensures refused { IfErr result (Refuses (IsFaultAt (serialize specifier.now) media_type text.now)) }
+    ensures found { IfOk result (HasSitesIn lang media_type text.now) }
+    ensures refused { IfErr result (Refuses (IsFaultIn (serialize specifier.now) lang (spec.modes_of media_type) text.now)) }
 {
     let tokens = lexed.tokens.as_slice();
-    match token_sites(alloc, media_type, text.as_str(), tokens) {
+    match token_sites_in(alloc, lang, media_type, text.as_str(), tokens) {
         Ok(found) => all_sites(alloc, media_type, &lexed, found),
         Err(error) => Err(tokens_fault(alloc, specifier, text, tokens, error)),
     }
@@ -134,6 +154,23 @@ pub fn token_sites(
     ensures only { (tree : Typed) → IsTree media_type text.now tokens.now tree → GivesSites result tree }
 {
     let lang = language_of(media_type);
+    token_sites_in(alloc, lang, media_type, text, tokens)
+}
+
+/// The same in a language that the caller names.
+pub fn token_sites_in(
+    alloc: Global,
+    lang: Lang,
+    media_type: MediaType,
+    text: &str,
+    tokens: &[Token],
+) -> Result<Items<Site>, SyntaxError>
+    requires { ReadsTokens text.now tokens.now }
+    // What is answered are the sites of the tree.
+    ensures made { IfOk result (AreSitesIn lang media_type text.now tokens.now) }
+    // Where there is a tree, its sites are answered, unless memory runs out.
+    ensures only { (tree : Typed) → IsFirstTree lang text.now tokens.now (spec.modes_of media_type) tree → GivesSites result tree }
+{
     sites_in(alloc, lang, modes_of(media_type), text, tokens)
 }
 
