@@ -228,6 +228,14 @@ module _ (env : Env) where
       key = λ h. key_by _ (Expr-F.New callee type_args has_args args r)
           (vExpr.rolls-New callee type_args has_args args r) refl;
     };
+    type_assertion_const = λ e. record {
+      entity = λ h. entity_by _ (Expr-F.TsConstAssertion e r) (vExpr.rolls-TsConstAssertion e r) refl;
+      key = λ h. key_by _ (Expr-F.TsConstAssertion e r) (vExpr.rolls-TsConstAssertion e r) refl;
+    };
+    type_assertion_as = λ e ty. record {
+      entity = λ h. entity_by _ (Expr-F.TsAs e ty r) (vExpr.rolls-TsAs e ty r) refl;
+      key = λ h. key_by _ (Expr-F.TsAs e ty r) (vExpr.rolls-TsAs e ty r) refl;
+    };
     typed_binary_const = λ e. record {
       entity = λ h. entity_by _ (Expr-F.TsConstAssertion e r) (vExpr.rolls-TsConstAssertion e r) refl;
       key = λ h. key_by _ (Expr-F.TsConstAssertion e r) (vExpr.rolls-TsConstAssertion e r) refl;

@@ -36,7 +36,7 @@ showing =
     ∷ l.Spread ∷
     l.Function ∷ l.AsyncFunction ∷ l.TypedFunction ∷ l.TypedAsyncFunction ∷ l.NameArrow ∷ l.ParenthesizedArrow ∷
     l.AsyncNameArrow ∷ l.AsyncParenthesizedArrow ∷ l.TypedParenthesizedArrow ∷ l.TypedAsyncParenthesizedArrow ∷ l.New ∷
-    l.TypedNew ∷ l.Chain ∷ l.UnaryExpression ∷ l.TypedBinary ∷ []
+    l.TypedNew ∷ l.Chain ∷ l.UnaryExpression ∷ l.TypedBinary ∷ l.TypeAssertion ∷ []
 
 module _ (env : Env) where
   abbrev pub Claim : NodeKind → Expr → Type 0
@@ -141,6 +141,8 @@ module _ (env : Env) where
         bare _ (Expr-F.Expr::Class c) (vExpr.rolls-Class c)
         (record { sort = refl; rule = λ c r s. refl; rest = λ c s. refl; type_key = refl; entity = refl });
     typed_new = λ callee type_args has_args args h. absurd (true≢false h);
+    type_assertion_const = λ e h. absurd (true≢false h);
+    type_assertion_as = λ e ty h. absurd (true≢false h);
     typed_binary_const = λ e h. absurd (true≢false h);
     typed_binary_as = λ e ty h. absurd (true≢false h);
     typed_binary_satisfies = λ e ty h. absurd (true≢false h);

@@ -16,7 +16,7 @@ use Rattle.es_lowering.specs.Value.{Value, absent, nil, more, token, node, part,
 use Rattle.es_lowering.specs.Texts.{span_of, token_at}
 use Rattle.es_lowering.specs.Operators.{binary_between}
 use Rattle.es_lowering.specs.Expressions.{elements, parenthesized, array_literal}
-use Rattle.es_lowering.specs.TypedExpressions.{asserted_by, turned_by, typed_binary}
+use Rattle.es_lowering.specs.TypedExpressions.{asserted_by, type_assertion, turned_by, typed_binary}
 use Rattle.es_lowering.specs.Lowering.{build, expr_of, type_of, as_target}
 use Rattle.es_syntax.specs.declared.entry.Lean.{Lean}
 use Rattle.es_syntax.specs.declared.entry.Lean.TheVariants as vLean
@@ -32,7 +32,7 @@ use Rattle.es_syntax.proofs.Rows.{group_role, group_leant}
 use Rattle.es_expr_spans.proofs.Given.{one, of_given, of_mapped}
 use Rattle.es_expr_spans.proofs.Forms as forms
 use Rattle.dts_rules.specs.Sets.{is_array_literal}
-use Rattle.dts_sets.specs.Forms.{literal_labels, Literal, ArrayType, Turned, Leaned, is_word}
+use Rattle.dts_sets.specs.Forms.{literal_labels, Literal, ArrayType, Asserted, Turned, Leaned, is_word}
 use Rattle.dts_sets.proofs.LiteralForms.{literal_Array, literal_Paren, literal_Bin, literal_TsConstAssertion, literal_TsAs, literal_TsSatisfies, other_literal}
 
 abbrev Is : Bool → Expr → Type 0
@@ -114,6 +114,19 @@ module _ (ts : List Token) (r : Range) (e : Expr) (before : Bool) (known : is_ar
   lean_turn x lean from es kind =
       kept (leant x ts lean from (parts_of x ts es)) kind
       (in_leant x ts (λ m. m.ts_type) (leaning_type x) lean from (parts_of x ts es))
+
+  -- the same before it, as after `as`
+  pub type_before : (x : List ℕ) (label : NodeKind) (from to : ℕ) (p : Value) (b : Bool)
+      → ArrayType b (ts_type_in (node_of x ts label from to p))
+      → Literal b (asserted_by r e k.AsWord (node_of x ts label from to p))
+  type_before x label from to p b type =
+      asserted true (ts_type_in (node_of x ts label from to p)) b (λ w. type) (λ w. absurd (different w))
+    where
+      different : true ≡ false → ⊥
+      different e = cc
+
+  pub role_before : (x : List ℕ) (v : Value) → Literal before (asserted_by r e k.AsWord (as_target x ts v))
+  role_before x v = role_turn x v (Some k.AsWord)
 
 -- at a place of a row
 module _ (x : List ℕ) (ts : List Token) (i : Item) (r : Range) (e : Expr) (kind : Option TokenKind) (b : Bool) where
@@ -204,6 +217,15 @@ module _ (ts : List Token) (before : Bool) (g : Value) where
       let P : Option Token → Type 0 =
       λ t. Literal after (given (option_map (λ t. t.kind) t) (λ kind. asserted_by r e kind v)) in
       subst P (sym there) (known r e b))
+
+-- ---- what is before it, in angle brackets
+module _ (before : Bool) (g : Value) where
+  pub there_before : (v : Value) (after : Bool) → part g 0 ≡ v → Asserted before after v
+      → Asserted before after (part g 0)
+  there_before v after is known = subst (Asserted before after) (sym is) known
+
+  pub none_before : part g 0 ≡ absent → Asserted before false (part g 0)
+  none_before is = subst (Asserted before false) (sym is) (λ r e known. tt)
 
 -- ---- turns of a chain
 module _ (x : List ℕ) (ts : List Token) where
@@ -318,6 +340,28 @@ module _ (x : List ℕ) (ts : List Token) where
       let P : Value → Type 0 =
       λ w. Literal b (given (expr_in w)
       (λ left. turned_by ts r left (behind w) (group p 1) (part (group p 1) 1))) in
+      subst P (sym e) tt
+
+  pub asserted_node : (from : ℕ) (r : Range) (p g v : Value) (before after : Bool) → part p 1 ≡ v → g ≡ group p 0
+      → Literal before (expr_in v) → Asserted before after (part g 0)
+      → Literal after (expr_of x ts l.TypeAssertion from r p)
+  unfolding expr_of type_assertion
+  asserted_node from r p g v before after e same arg type =
+      let P : Value → Type 0 = λ v. Literal before (expr_in v) in
+      let Q : Value → Type 0 = λ g. Asserted before after (part g 0) in
+      go (expr_in (part p 1)) (subst P (sym e) arg) (subst Q same type)
+    where
+      go : (o : Option Expr) → Literal before o → Asserted before after (part (group p 0) 0)
+          → Literal after (given o (λ e. asserted_by r e k.AsWord (part (group p 0) 0)))
+      go None arg type = tt
+      go (Some it) arg type = type r it arg
+
+  pub no_asserted : (from : ℕ) (r : Range) (p : Value) (b : Bool) → part p 1 ≡ absent
+      → Literal b (expr_of x ts l.TypeAssertion from r p)
+  unfolding expr_of type_assertion
+  no_asserted from r p b e =
+      let P : Value → Type 0 =
+      λ w. Literal b (given (expr_in w) (λ e. asserted_by r e k.AsWord (part (group p 0) 0))) in
       subst P (sym e) tt
 
   pub own : (label : NodeKind) (from to : ℕ) (p : Value) (b : Bool) → is_one_of literal_labels label ≡ true

@@ -5,13 +5,14 @@ use Rattle.es_grammar.specs.declared.rows.NodeKind.TheVariants as l
 use Rattle.base.specs.declared.range.Range.{Range}
 use Rattle.es_token.specs.declared.token.Token.{Token}
 use Rattle.es_token.specs.declared.token.TokenKind.{TokenKind}
+use Rattle.es_token.specs.declared.token.TokenKind.TheVariants as k
 use Rattle.grammar_theory.specs.Key.{same_kind}
 use Rattle.es_ast.specs.declared.ts.leaf.TsEntityName.{TsEntityName}
 use Rattle.es_ast.specs.declared.ts.ts.TsType.{TsType}
 use Rattle.es_ast.specs.declared.ast.Expr.{Expr}
 use Rattle.es_lowering.specs.Value.{Value, part}
 use Rattle.es_lowering.specs.Types.{indexes}
-use Rattle.es_lowering.specs.TypedExpressions.{turned_by}
+use Rattle.es_lowering.specs.TypedExpressions.{asserted_by, turned_by}
 use Rattle.es_syntax.specs.declared.entry.Lean.TheVariants as vLean
 use Rattle.es_syntax.specs.Held.{Held, leaned}
 use Rattle.es_syntax.specs.Roles.{expr_in}
@@ -25,7 +26,7 @@ function_labels =
 
 -- what may be an array literal
 abbrev pub literal_labels : List NodeKind
-literal_labels = l.ArrayLiteral ∷ l.Parenthesized ∷ l.TypedBinary ∷ []
+literal_labels = l.ArrayLiteral ∷ l.Parenthesized ∷ l.TypedBinary ∷ l.TypeAssertion ∷ []
 
 -- what may be the type of an array
 abbrev pub array_labels : List NodeKind
@@ -66,6 +67,11 @@ Indexes ts before after row =
 abbrev pub Turned : List Token → Bool → Bool → Value → Type 0
 Turned ts before after g =
     (r : Range) (from : ℕ) (e : Expr) → is_array_literal e ≡ before → Literal after (turned_by ts r e from g (part g 1))
+
+-- the same with this type, or `const`, before it
+abbrev pub Asserted : Bool → Bool → Value → Type 0
+Asserted before after v =
+    (r : Range) (e : Expr) → is_array_literal e ≡ before → Literal after (asserted_by r e k.AsWord v)
 
 -- the same of all turns of a chain
 abbrev pub Leaned : List ℕ → List Token → Bool → Bool → List Held → Type 0

@@ -5,7 +5,7 @@ ghost use Rattle.base.specs.declared.range.Range.{Range};
 ghost use Rattle.es_token.specs.declared.token.Token.{Token as Tok};
 ghost use Rattle.es_ast.specs.declared.ast.Expr.{Expr};
 ghost use Rattle.es_lexer.specs.Reads.{ReadsTokens};
-ghost use Rattle.es_lowering.specs.Value.{Value, given};
+ghost use Rattle.es_lowering.specs.Value.{Value, given, part};
 ghost use Rattle.es_lowering.specs.Lowering.{expr_of};
 ghost use Rattle.es_lowering.specs.TypedExpressions.{asserted_by};
 ghost use Rattle.es_syntax.specs.Held.{held, valued, parts_of, leaning, leant, token_there};
@@ -14,7 +14,7 @@ ghost use Rattle.es_syntax.specs.declared.entry.Lean.TheVariants as vLean;
 ghost use Rattle.es_syntax.specs.Roles.{expr_in};
 ghost use Rattle.es_syntax.specs.Views.{is_one_of};
 ghost use Rattle.dts_rules.specs.Sets.{is_array_literal};
-ghost use Rattle.dts_sets.specs.Forms.{literal_labels, Literal, Turned, Leaned};
+ghost use Rattle.dts_sets.specs.Forms.{literal_labels, Literal, Asserted, Turned, Leaned};
 
 use crate::types::{is_array_type, is_word};
 use es_grammar::NodeKind;
@@ -46,6 +46,39 @@ fn is_asserted(
         What::Role(_) => before,
         What::Parts => before,
         What::Lean(_) => before,
+    }
+}
+
+/// Whether an expression with this type or `const` before it is an array literal, by whether it was one before.
+#[tactic(auto, using(crate::proofs::LiteralLemmas::role_before))]
+fn is_asserted_as(text: &str, tokens: &[Token], ids: &ScopeIds, before: bool, it: &Item<'_>) -> bool
+    requires { ReadsTokens text.now tokens.now }
+    ensures { Asserted before result (valued text.now tokens.now it.now) }
+{
+    match it.what {
+        What::Leaf => before,
+        What::Node(_) => is_array_type(text, tokens, ids, it),
+        What::Role(_) => before,
+        What::Parts => before,
+        What::Lean(_) => before,
+    }
+}
+
+/// The same with what is in these brackets before it.
+#[tactic(auto, using(crate::proofs::LiteralLemmas::there_before, crate::proofs::LiteralLemmas::none_before))]
+fn is_asserted_in(
+    text: &str,
+    tokens: &[Token],
+    ids: &ScopeIds,
+    before: bool,
+    g: &Siblings<'_>,
+) -> bool
+    requires { ReadsTokens text.now tokens.now }
+    ensures { Asserted before result (part (held text.now tokens.now g.now.entries.now) 0) }
+{
+    match g.part(0) {
+        Some(it) => is_asserted_as(text, tokens, ids, before, &it),
+        None => false,
     }
 }
 
@@ -133,13 +166,14 @@ fn is_literal_label(label: NodeKind) -> bool
         NodeKind::ArrayLiteral => true,
         NodeKind::Parenthesized => true,
         NodeKind::TypedBinary => true,
+        NodeKind::TypeAssertion => true,
         _ => false,
     }
 }
 
 /// Whether a node of such an alternative is an array literal.
 #[cycle(literals)]
-#[tactic(auto, using(crate::proofs::LiteralLemmas::array, crate::proofs::LiteralLemmas::paren, crate::proofs::LiteralLemmas::no_inner, crate::proofs::LiteralLemmas::typed_node, crate::proofs::LiteralLemmas::no_operand))]
+#[tactic(auto, using(crate::proofs::LiteralLemmas::array, crate::proofs::LiteralLemmas::paren, crate::proofs::LiteralLemmas::no_inner, crate::proofs::LiteralLemmas::typed_node, crate::proofs::LiteralLemmas::no_operand, crate::proofs::LiteralLemmas::asserted_node, crate::proofs::LiteralLemmas::no_asserted))]
 fn own_literal(
     text: &str,
     tokens: &[Token],
@@ -163,11 +197,19 @@ fn own_literal(
             }
             None => false,
         },
+        NodeKind::TypeAssertion => match parts.part(1) {
+            Some(arg) => {
+                let before = is_array_literal(text, tokens, ids, &arg);
+                is_asserted_in(text, tokens, ids, before, &parts.group_at(0))
+            }
+            None => false,
+        },
         _ => false,
     }
 }
 
-/// Whether an expression is an array literal, looked at through `( )`, `as const`, `satisfies`, and `as` the type of an array.
+/// Whether an expression is an array literal, looked at through `( )`, `as const`, `satisfies`, and `as` the type of an array;
+/// `<a>b` is `b as a`.
 #[cycle(literals)]
 #[tactic(auto, using(crate::proofs::LiteralLemmas::own, crate::proofs::LiteralLemmas::other, crate::proofs::LiteralLemmas::role, crate::proofs::LiteralLemmas::row))]
 pub fn is_array_literal(text: &str, tokens: &[Token], ids: &ScopeIds, it: &Item<'_>) -> bool

@@ -99,7 +99,8 @@ module _ (keeps : Bool) (K : List Key) (below : Row → ℕ → Out Read) (from 
   private_chosen lang.Tsx c p a named read = rw named read
   private_chosen lang.Wide c p a named read = rw named read
 
-  related_absent : (l : Lang) (c : Context) (a : Production Row NodeKind) → has_kind is_comparing (seen K new.at) ≡ false
+  related_absent : (l : Lang) (c : Context) (a : Production Row NodeKind)
+      → has_kind is_comparing (seen K new.at) ≡ false
       → IsReadBy a → IsReadBy (related l c a)
   related_absent lang.Es c a none read =
       wrap_absent Binary a (by_predicate (opens_comparison lang.Es c)) (comparison_in c)
@@ -125,7 +126,8 @@ module _ (keeps : Bool) (K : List Key) (below : Row → ℕ → Out Read) (from 
   behind_absent lang.Tsx c a none read = shift_absent lang.Tsx c a none read
   behind_absent lang.Wide c a none read = shift_absent lang.Wide c a none read
 
-  pub comparing_absent : (l : Lang) (c : Context) (a : Production Row NodeKind) → has_kind is_comparing (seen K new.at) ≡ false
+  pub comparing_absent : (l : Lang) (c : Context) (a : Production Row NodeKind)
+      → has_kind is_comparing (seen K new.at) ≡ false
       → is k.PrivateName (seen K from) ≡ false → IsReadBy a → IsReadBy (comparing_over l c a)
   comparing_absent l c a none named read =
       level_absent is_equality (RelationRow c) (behind_types l c (relation_over l c (shift_over l c a)))
@@ -158,7 +160,8 @@ module _ (keeps : Bool) (K : List Key) (below : Row → ℕ → Out Read) (from 
       (level_absent (only k.AmpersandAmpersand) (BitOrRow c) (coalesce_over c a) (no_both (seen K new.at) none)
       (coalesce_absent c a none read))
 
-  conditional_absent : (l : Lang) (c : Context) (a : Production Row NodeKind) → has_kind is_operator (seen K new.at) ≡ false
+  conditional_absent : (l : Lang) (c : Context) (a : Production Row NodeKind)
+      → has_kind is_operator (seen K new.at) ≡ false
       → IsReadBy a → IsReadBy (conditional_over l c a)
   conditional_absent l c a none read =
       wrap_absent Conditional a (greedy (is k.Question))
@@ -177,7 +180,8 @@ module _ (keeps : Bool) (K : List Key) (below : Row → ℕ → Out Read) (from 
       (no_assignment K new.at none) read
 
   -- no operator at all stands there
-  pub operators_absent : (l : Lang) (c : Context) (a : Production Row NodeKind) → has_kind is_operator (seen K new.at) ≡ false
+  pub operators_absent : (l : Lang) (c : Context) (a : Production Row NodeKind)
+      → has_kind is_operator (seen K new.at) ≡ false
       → is k.PrivateName (seen K from) ≡ false → IsReadBy a → IsReadBy (operators_over l c a)
   operators_absent l c a none named read =
       let first = arithmetic_over c a in

@@ -44,7 +44,8 @@ relation_shift lang.Tsx c = refl
 relation_shift lang.Wide c = refl
 
 module _ (l : Lang) (c : Context) where
-  pub relation_same : behind_types l c (relation_over l c (shift_over l c (arithmetic_over c (power l c)))) ≡ relation l c
+  pub relation_same : behind_types l c (relation_over l c (shift_over l c (arithmetic_over c (power l c))))
+      ≡ relation l c
   unfolding shift shifted sum product
   relation_same = relation_shift l c
 
@@ -90,7 +91,8 @@ module _ (c : Context) (a : Production Row NodeKind) where
 
 module _ (keeps : Bool) (K : List Key) (below : Row → ℕ → Out Read) where
   -- the same rule reads the same, from the same place on, behind the same entries
-  pub read_as : (from to : ℕ) (base back : List Entry) (new : Cursor) (r : Result ℕ SyntaxError) (a b : Production Row NodeKind)
+  pub read_as : (from to : ℕ) (base back : List Entry) (new : Cursor) (r : Result ℕ SyntaxError)
+      (a b : Production Row NodeKind)
       → from ≡ to → base ≡ back → a ≡ b
       → IsRead keeps (rule_at K below a from) base new r → IsRead keeps (rule_at K below b to) back new r
   read_as from to base back new r a b place there same read =

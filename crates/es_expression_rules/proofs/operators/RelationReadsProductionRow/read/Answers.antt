@@ -12,7 +12,8 @@ returns g c =
     c.read-operand.result c.read.result (power c.args.self.now.0 c.args.self.now.1)
     (behind_types c.args.self.now.0 c.args.self.now.1
     (relation_over c.args.self.now.0 c.args.self.now.1
-    (shift_over c.args.self.now.0 c.args.self.now.1 (arithmetic_over c.args.self.now.1 (power c.args.self.now.0 c.args.self.now.1)))))
+    (shift_over c.args.self.now.0 c.args.self.now.1
+    (arithmetic_over c.args.self.now.1 (power c.args.self.now.0 c.args.self.now.1)))))
     (relation c.args.self.now.0 c.args.self.now.1) c.here-from.ensures.token c.here-from.ensures.entry
     (relation_same c.args.self.now.0 c.args.self.now.1)
     (c.read.ensures (power c.args.self.now.0 c.args.self.now.1)) c.read-operand.ensures

@@ -10,7 +10,8 @@ returns g c =
     (g.T.Rows.below c.args.grammar.now.rows c.args.grammar.now.input)
     c.here-from.result c.args.cursor.now.at c.args.cursor.now.row c.read-operand.new.cursor c.read.new.cursor
     c.read-operand.result c.read.result (power c.args.self.now.0 c.args.self.now.1)
-    (shift_over c.args.self.now.0 c.args.self.now.1 (arithmetic_over c.args.self.now.1 (power c.args.self.now.0 c.args.self.now.1)))
+    (shift_over c.args.self.now.0 c.args.self.now.1
+    (arithmetic_over c.args.self.now.1 (power c.args.self.now.0 c.args.self.now.1)))
     (shift c.args.self.now.0 c.args.self.now.1) c.here-from.ensures.token c.here-from.ensures.entry
     (shift_same c.args.self.now.0 c.args.self.now.1)
     (c.read.ensures (power c.args.self.now.0 c.args.self.now.1)) c.read-operand.ensures
