@@ -23,6 +23,7 @@ struct Call {
 fn call_of(row: &Row) -> Call {
     let (lang, mode, strict) = match row.call() {
         "ts" => (Lang::Typescript, Mode::Module, false),
+        "wide" => (Lang::Wide, Mode::Module, false),
         "script" => (Lang::Es, Mode::Script, false),
         "strict" => (Lang::Es, Mode::Module, true),
         "strict-ts" => (Lang::Typescript, Mode::Module, true),

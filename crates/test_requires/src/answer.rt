@@ -16,6 +16,7 @@ use test_rows::Row;
 pub fn answer(alloc: Global, row: &Row) -> Result<String, AllocError> {
     let (lang, mode) = match row.call() {
         "ts" => (Lang::Typescript, Mode::Module),
+        "wide" => (Lang::Wide, Mode::Module),
         "script" => (Lang::Es, Mode::Script),
         _ => (Lang::Es, Mode::Module),
     };

@@ -18,6 +18,7 @@ use test_rows::Row;
 pub fn answer(alloc: Global, row: &Row) -> Result<String, AllocError> {
     let (lang, mode, vars) = match row.call() {
         "ts" => (Lang::Typescript, Mode::Module, false),
+        "wide" => (Lang::Wide, Mode::Module, false),
         "script" => (Lang::Es, Mode::Script, false),
         "vars-ts" => (Lang::Typescript, Mode::Module, true),
         "vars-script" => (Lang::Es, Mode::Script, true),

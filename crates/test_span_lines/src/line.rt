@@ -8,25 +8,34 @@ use grammar_theory::{Lang, Mode, SyntaxError};
 use std::alloc::{AllocError, Global};
 use test_node_spans::place;
 
-/// The kind and the range of the node, or why there is none: where a text has no tree, the range of the token at fault.
+/// The kind and the range of the node, of a text in `Wide` after a `W`, or why there is none: where a text has no tree, the range of the token at fault.
 pub fn line_of(alloc: Global, text: &str) -> Result<String, AllocError> {
+    let (lang, text) = match text.strip_prefix('W') {
+        Some(text) => (Lang::Wide, text),
+        None => (Lang::Typescript, text),
+    };
     let Some((letter, text)) = text.split_at_checked(1) else {
         return format!(in alloc; "no letter");
     };
     match lex_tokens(alloc, text) {
-        Ok(lexed) => program_line(alloc, letter, lexed.tokens.as_slice()),
+        Ok(lexed) => program_line(alloc, lang, letter, lexed.tokens.as_slice()),
         Err(LexError::Lexical(error)) => format!(in alloc; "{error}"),
         Err(LexError::OutOfMemory) => Err(AllocError),
     }
 }
 
-fn program_line(alloc: Global, letter: &str, tokens: &[Token]) -> Result<String, AllocError> {
+fn program_line(
+    alloc: Global,
+    lang: Lang,
+    letter: &str,
+    tokens: &[Token],
+) -> Result<String, AllocError> {
     let mode = if letter == "j" {
         Mode::Script
     } else {
         Mode::Module
     };
-    match read_program(alloc, Lang::Typescript, mode, tokens) {
+    match read_program(alloc, lang, mode, tokens) {
         Ok(row) => node_line(
             alloc,
             letter,
