@@ -6,6 +6,7 @@ use Rattle.std.proofs.lemmas.List.{append-nil}
 use Rattle.es_token.specs.declared.token.Token.{Token}
 use Rattle.es_token.specs.declared.token.Comment.{Comment}
 use Rattle.es_lexer.specs.Reads.{Reads}
+use Rattle.grammar_theory.specs.declared.error.Lang.{Lang}
 use Rattle.grammar_theory.specs.declared.error.SyntaxError.{SyntaxError}
 use Rattle.grammar_theory.specs.Key.{keys_of}
 use Rattle.es_ast.specs.declared.ast.Program.{Program}
@@ -17,14 +18,14 @@ use Rattle.es_law_sites.specs.plain.Own.{plain_sites}
 use Rattle.es_program_reader.specs.Derived.{GivesTree}
 use Rattle.es_requires.specs.Calls.{requires}
 use Rattle.media_type.specs.declared.media_type.MediaType.{MediaType}
-use Rattle.source_reading.specs.Tree.{language_of, modes_of, IsTree}
-use Rattle.source_reading.specs.Read.{references_in, HasSites}
+use Rattle.source_reading.specs.Tree.{modes_of, IsFirstTree}
+use Rattle.source_reading.specs.Read.{references_in, HasSitesIn}
 use Rattle.source_sites.proofs.SitesLemmas.{has_sites}
 use Rattle.forms_analyzer.specs.Forms.{IsFirstKept, HoldsFirst, HasCalls, HasForms}
 use Rattle.forms_analyzer.proofs.TreeLemmas.{first_typed, first_plain}
 
-module _ (media : MediaType) (x : List ℕ) (ts : List Token) (cs : List Comment) (reads : Reads x ts cs)
-    (es : List Entry) (holds : HoldsFirst (language_of media) (keys_of ts) (modes_of media) es) where
+module _ (l : Lang) (media : MediaType) (x : List ℕ) (ts : List Token) (cs : List Comment) (reads : Reads x ts cs)
+    (es : List Entry) (holds : HoldsFirst l (keys_of ts) (modes_of media) es) where
   row_sites : (found : List Site) → found ≡ flat_map (plain_sites x ts) (trees es)
       → found ≡ plain_sites x ts holds.tree
   row_sites found same =
@@ -32,14 +33,14 @@ module _ (media : MediaType) (x : List ℕ) (ts : List Token) (cs : List Comment
       ∙ append-nil (plain_sites x ts holds.tree)
 
   pub row_has_sites : (references found all : List Site) → references ≡ references_in media ts cs
-      → found ≡ flat_map (plain_sites x ts) (trees es) → all ≡ references ++ found → HasSites media x all
+      → found ≡ flat_map (plain_sites x ts) (trees es) → all ≡ references ++ found → HasSitesIn l media x all
   row_has_sites references found all refers same both =
-      let typed = first_typed (language_of media) x ts (modes_of media) holds.tree holds.first in
-      has_sites media x ts cs found all reads
+      let typed = first_typed l x ts (modes_of media) holds.tree holds.first in
+      has_sites l media x ts cs found all reads
       (record { tree = typed.0; is = typed.1; sites = row_sites found same ∙ sym typed.2 })
       (both ∙ ap (λ (r : List Site). r ++ found) refers)
 
-  row_has_calls : (calls : List Site) → calls ≡ requires x ts (first_tree (trees es)) → HasCalls media x calls
+  row_has_calls : (calls : List Site) → calls ≡ requires x ts (first_tree (trees es)) → HasCalls l media x calls
   row_has_calls calls is = record {
     tokens = ts;
     reads = (cs, reads);
@@ -48,16 +49,16 @@ module _ (media : MediaType) (x : List ℕ) (ts : List Token) (cs : List Comment
     calls = is ∙ ap (λ (us : List Cst). requires x ts (first_tree us)) holds.row;
   }
 
-  pub row_has_forms : (sites calls all : List Site) → HasSites media x sites
-      → calls ≡ requires x ts (first_tree (trees es)) → all ≡ sites ++ calls → HasForms media x all
+  pub row_has_forms : (sites calls all : List Site) → HasSitesIn l media x sites
+      → calls ≡ requires x ts (first_tree (trees es)) → all ≡ sites ++ calls → HasForms l media x all
   row_has_forms sites calls all has is both =
       record { sites = sites; has = has; calls = calls; has_calls = row_has_calls calls is; both = both }
 
 -- where no plain tree is given, there is no typed one
-pub no_typed : (media : MediaType) (x : List ℕ) (ts : List Token) (token : ℕ)
-    → ((tree : Cst) → IsFirstKept (language_of media) (keys_of ts) (modes_of media) tree
+pub no_typed : (l : Lang) (media : MediaType) (x : List ℕ) (ts : List Token) (token : ℕ)
+    → ((tree : Cst) → IsFirstKept l (keys_of ts) (modes_of media) tree
     → GivesTree (Err (SyntaxError.Syntax token)) tree)
-    → (p : Program) → ¬ IsTree media x ts p
-no_typed media x ts token none p is =
-    let plain = first_plain (language_of media) x ts (modes_of media) p is in
+    → (p : Program) → ¬ IsFirstTree l x ts (modes_of media) p
+no_typed l media x ts token none p is =
+    let plain = first_plain l x ts (modes_of media) p is in
     none plain.0 plain.1

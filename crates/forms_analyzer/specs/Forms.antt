@@ -1,9 +1,10 @@
--- What a source is read as where `require` counts too: its sites, and after them the calls of a free `require`.
-use Rattle.std.specs.Prelude.{◌≡◌, ℕ, Bool, true, false, List, [], ◌∷◌, ◌++◌, ◌⊎◌, Option, Ok, Err}
+-- What a source is read as by choice: its sites, after them the calls of a free `require`, and in which language.
+use Rattle.std.specs.Prelude.{◌≡◌, ℕ, Bool, true, false, if◌then◌else◌, List, [], ◌∷◌, ◌++◌, ◌⊎◌, Option, Ok, Err}
 use Rattle.base.specs.declared.range.Range.{Range}
 use Rattle.es_token.specs.declared.token.Token.{Token}
 use Rattle.es_lexer.specs.Reads.{ReadsTokens}
 use Rattle.grammar_theory.specs.declared.error.Lang.{Lang}
+use Rattle.grammar_theory.specs.declared.error.Lang.TheVariants as lang
 use Rattle.grammar_theory.specs.declared.error.Mode.{Mode}
 use Rattle.grammar_theory.specs.Key.{Key, keys_of}
 use Rattle.es_grammar.specs.declared.cst.tree.Cst.{Cst}
@@ -13,10 +14,28 @@ use Rattle.es_program_reader.specs.Derived.{IsRowOf}
 use Rattle.es_program_reader.specs.Program.{IsKept}
 use Rattle.es_requires.specs.Calls.{requires}
 use Rattle.media_type.specs.declared.media_type.MediaType.{MediaType}
+use Rattle.media_type.specs.declared.media_type.MediaType.TheVariants.{Tsx}
+use Rattle.media_type.specs.MediaType.{is_typed}
 use Rattle.parse_diagnostic.specs.declared.kind.SyntaxErrorKind.{SyntaxErrorKind}
 use Rattle.source_reading.specs.Tree.{language_of, modes_of}
-use Rattle.source_reading.specs.Read.{HasSites, IsFaulty}
+use Rattle.source_reading.specs.Read.{HasSitesIn, IsRefused}
 use Rattle.graph_entry.specs.Reading.{Sites, Reading, ReadsSource, diagnosis_at}
+
+-- ---- languages
+
+abbrev pub is_tsx : MediaType → Bool
+is_tsx Tsx = true
+is_tsx _ = false
+
+-- the language of a source where all forms are read
+abbrev pub full_language : MediaType → Lang
+full_language media = if is_typed media then (if is_tsx media then lang.Tsx else lang.Wide) else lang.Jsx
+
+-- where all forms are read, or those of the media type's language
+abbrev pub language_by : Bool → MediaType → Lang
+language_by all media = if all then full_language media else language_of media
+
+-- ---- sources
 
 -- the plain tree in the first of these modes in which there is one
 abbrev pub IsFirstKept : Lang → List Key → List Mode → Cst → Type 0
@@ -30,31 +49,35 @@ pub record HoldsFirst (lang : Lang) (K : List Key) (modes : List Mode) (es : Lis
   pub row : IsRowOf tree es
   pub first : IsFirstKept lang K modes tree
 
--- the calls of a source, by the tree that it is read as
-pub record HasCalls (media : MediaType) (text : List ℕ) (found : List Site) : Type 0 where
+-- the calls of a source, by the tree that it is read as in this language
+pub record HasCalls (l : Lang) (media : MediaType) (text : List ℕ) (found : List Site) : Type 0 where
   pub tokens : List Token
   pub reads : ReadsTokens text tokens
   pub tree : Cst
-  pub first : IsFirstKept (language_of media) (keys_of tokens) (modes_of media) tree
+  pub first : IsFirstKept l (keys_of tokens) (modes_of media) tree
   pub calls : found ≡ requires text tokens tree
 
 -- its sites, and after them its calls
-pub record HasForms (media : MediaType) (text : List ℕ) (found : List Site) : Type 0 where
+pub record HasForms (l : Lang) (media : MediaType) (text : List ℕ) (found : List Site) : Type 0 where
   pub sites : List Site
-  pub has : HasSites media text sites
+  pub has : HasSitesIn l media text sites
   pub calls : List Site
-  pub has_calls : HasCalls media text calls
+  pub has_calls : HasCalls l media text calls
   pub both : found ≡ sites ++ calls
 
--- what a source is read as
-pub data ReadsForms (s : List ℕ) (media : MediaType) (text : List ℕ) (sites : Sites) : Type 0 where
-  -- its sites and its calls
-  with_forms : (found : List Site) → HasForms media text found → sites ≡ Ok found → ReadsForms s media text sites
+-- what a source is read as, of which so much is told, by the languages of media types
+pub data ReadsAs (Has : Lang → MediaType → List ℕ → List Site → Type 0) (language : MediaType → Lang) (s : List ℕ)
+    (media : MediaType) (text : List ℕ) (sites : Sites) : Type 0 where
+  -- what it has
+  with_forms : (found : List Site) → Has (language media) media text found → sites ≡ Ok found
+      → ReadsAs Has language s media text sites
   -- it is no program: the fault
-  no_program : (kind : SyntaxErrorKind) (range : Option Range) → IsFaulty media text kind range
-      → sites ≡ Err (diagnosis_at s kind range) → ReadsForms s media text sites
+  no_program : (kind : SyntaxErrorKind) (range : Option Range)
+      → IsRefused (language media) (modes_of media) text kind range
+      → sites ≡ Err (diagnosis_at s kind range) → ReadsAs Has language s media text sites
 
--- where `require` counts, or doesn't
-abbrev pub ReadsBy : Bool → Reading
-ReadsBy true = ReadsForms
-ReadsBy false = ReadsSource
+-- where `require` counts, or doesn't, and where all forms are read, or those of the media type's language
+abbrev pub ReadsBy : Bool → Bool → Reading
+ReadsBy true all = ReadsAs HasForms (language_by all)
+ReadsBy false true = ReadsAs HasSitesIn full_language
+ReadsBy false false = ReadsSource

@@ -13,11 +13,12 @@ use Rattle.es_site.specs.declared.site.Site.{Site}
 use Rattle.es_requires.specs.Calls.{requires}
 use Rattle.media_type.specs.declared.media_type.MediaType.{MediaType}
 use Rattle.parse_diagnostic.specs.declared.kind.SyntaxErrorKind.{SyntaxErrorKind}
-use Rattle.source_reading.specs.Tree.{language_of, modes_of}
-use Rattle.source_reading.proofs.Theorems.{one_sites, sites_or_fault, one_fault_of}
+use Rattle.source_reading.specs.Tree.{modes_of}
+use Rattle.source_reading.specs.Read.{HasSitesIn, IsRefused}
+use Rattle.source_reading.proofs.Theorems.{one_sites_in, sites_or_refusal, one_refusal}
 use Rattle.graph_entry.specs.Reading.{IsFunction, diagnosis_at}
 use Rattle.graph_entry.specs.ReadingLaws.{reads_once}
-use Rattle.forms_analyzer.specs.Forms.{IsFirstKept, HasCalls, HasForms, ReadsForms, with_forms, no_program, ReadsBy}
+use Rattle.forms_analyzer.specs.Forms.{full_language, language_by, IsFirstKept, HasCalls, HasForms, ReadsAs, with_forms, no_program, ReadsBy}
 
 module _ (l : Lang) (K : List Key) where
   first_once : (modes : List Mode) (s t : Cst) → IsFirstKept l K modes s → IsFirstKept l K modes t → s ≡ t
@@ -27,38 +28,50 @@ module _ (l : Lang) (K : List Key) where
   first_once (m ∷ modes) s t (inr is) (inl so) = absurd (is.0 t so)
   first_once (m ∷ modes) s t (inr is) (inr so) = first_once modes s t is.1 so.1
 
-module _ (media : MediaType) (text : List ℕ) where
+module _ (l : Lang) (media : MediaType) (text : List ℕ) where
   -- its calls are one list at most
-  one_calls : (found other : List Site) → HasCalls media text found → HasCalls media text other → found ≡ other
+  one_calls : (found other : List Site) → HasCalls l media text found → HasCalls l media text other → found ≡ other
   one_calls found other one also =
       let same : one.tokens ≡ also.tokens
       = (one_reading text one.tokens also.tokens one.reads.0 also.reads.0 one.reads.1 also.reads.1).0 in
-      let first : IsFirstKept (language_of media) (keys_of one.tokens) (modes_of media) also.tree
-      = subst (λ (ts : List Token). IsFirstKept (language_of media) (keys_of ts) (modes_of media) also.tree) (sym same)
+      let first : IsFirstKept l (keys_of one.tokens) (modes_of media) also.tree
+      = subst (λ (ts : List Token). IsFirstKept l (keys_of ts) (modes_of media) also.tree) (sym same)
       also.first in
-      let tree = first_once (language_of media) (keys_of one.tokens) (modes_of media) one.tree also.tree one.first first in
+      let tree = first_once l (keys_of one.tokens) (modes_of media) one.tree also.tree one.first first in
       one.calls ∙ ap (λ (ts : List Token). requires text ts one.tree) same
       ∙ ap (λ (t : Cst). requires text also.tokens t) tree ∙ sym also.calls
 
-  one_forms : (found other : List Site) → HasForms media text found → HasForms media text other → found ≡ other
+  one_forms : (found other : List Site) → HasForms l media text found → HasForms l media text other → found ≡ other
   one_forms found other one also =
-      one.both ∙ ap (λ (s : List Site). s ++ one.calls) (one_sites media text one.sites also.sites one.has also.has)
+      one.both ∙ ap (λ (s : List Site). s ++ one.calls) (one_sites_in l media text one.sites also.sites one.has also.has)
       ∙ ap (λ (s : List Site). also.sites ++ s) (one_calls one.calls also.calls one.has_calls also.has_calls)
       ∙ sym also.both
 
-forms_once : IsFunction ReadsForms
-forms_once s media text a b (with_forms found has is) (with_forms others also so) =
-    is ∙ ap (λ (sites : List Site). Ok sites) (one_forms media text found others has also) ∙ sym so
-forms_once s media text a b (with_forms found has is) (no_program kind range faulty so) =
-    absurd (sites_or_fault media text has.sites kind range has.has faulty)
-forms_once s media text a b (no_program kind range faulty is) (with_forms others also so) =
-    absurd (sites_or_fault media text also.sites kind range also.has faulty)
-forms_once s media text a b (no_program k r faulty is) (no_program l q also so) =
-    let same = one_fault_of media text k l r q faulty also in
-    is ∙ ap (λ (kind : SyntaxErrorKind). Err (diagnosis_at s kind r)) same.0
-    ∙ ap (λ (range : Option Range). Err (diagnosis_at s l range)) same.1 ∙ sym so
+  forms_or_refusal : (found : List Site) (kind : SyntaxErrorKind) (range : Option Range) → HasForms l media text found
+      → IsRefused l (modes_of media) text kind range → ⊥
+  forms_or_refusal found kind range has refused = sites_or_refusal l media text has.sites kind range has.has refused
+
+-- what is told of a source is one list at most, and nothing of what is no program
+module _ (Has : Lang → MediaType → List ℕ → List Site → Type 0)
+    (one : (l : Lang) (media : MediaType) (text : List ℕ) (found other : List Site) → Has l media text found
+    → Has l media text other → found ≡ other)
+    (apart : (l : Lang) (media : MediaType) (text : List ℕ) (found : List Site) (kind : SyntaxErrorKind)
+    (range : Option Range) → Has l media text found → IsRefused l (modes_of media) text kind range → ⊥)
+    (language : MediaType → Lang) where
+  reads_as_once : IsFunction (ReadsAs Has language)
+  reads_as_once s media text a b (with_forms found has is) (with_forms others also so) =
+      is ∙ ap (λ (sites : List Site). Ok sites) (one (language media) media text found others has also) ∙ sym so
+  reads_as_once s media text a b (with_forms found has is) (no_program kind range refused so) =
+      absurd (apart (language media) media text found kind range has refused)
+  reads_as_once s media text a b (no_program kind range refused is) (with_forms others also so) =
+      absurd (apart (language media) media text others kind range also refused)
+  reads_as_once s media text a b (no_program k r refused is) (no_program l q also so) =
+      let same = one_refusal (language media) (modes_of media) text k l r q refused also in
+      is ∙ ap (λ (kind : SyntaxErrorKind). Err (diagnosis_at s kind r)) same.0
+      ∙ ap (λ (range : Option Range). Err (diagnosis_at s l range)) same.1 ∙ sym so
 
 -- a source is read as one thing at most
-pub reads_by_once : (requires : Bool) → IsFunction (ReadsBy requires)
-reads_by_once true = forms_once
-reads_by_once false = reads_once
+pub reads_by_once : (requires all : Bool) → IsFunction (ReadsBy requires all)
+reads_by_once true all = reads_as_once HasForms one_forms forms_or_refusal (language_by all)
+reads_by_once false true = reads_as_once HasSitesIn one_sites_in sites_or_refusal full_language
+reads_by_once false false = reads_once

@@ -7,8 +7,8 @@ ghost use Rattle.es_lexer.specs.Reads.{Reads};
 ghost use Rattle.grammar_theory.specs.Key.{keys_of};
 ghost use Rattle.parse_diagnostic.specs.Diagnosis.{IsDiagnosis};
 ghost use Rattle.source_reading.specs.Tree as spec;
-ghost use Rattle.source_reading.specs.Read.{HasSites};
-ghost use Rattle.source_reading.specs.Fault.{IsFaultAt, Refuses};
+ghost use Rattle.source_reading.specs.Read.{HasSitesIn};
+ghost use Rattle.source_reading.specs.Fault.{IsFaultIn, Refuses};
 ghost use Rattle.forms_analyzer.specs.Forms.{HoldsFirst, HasForms};
 
 use crate::tree::read_tree;
@@ -19,7 +19,7 @@ use es_site::Site;
 use es_syntax::{Entry, Siblings};
 use es_token::{Comment, Lexed, Token};
 use es_tree_sites::tree_sites;
-use grammar_theory::SyntaxError;
+use grammar_theory::{Lang, SyntaxError};
 use media_type::MediaType;
 use parse_diagnostic::{ParseFault, SyntaxErrorKind};
 use source_sites::{lexical_fault, references_in, syntax_fault, with_sites};
@@ -27,20 +27,22 @@ use source_text::SourceText;
 use std::alloc::{AllocError, Global};
 use url::Url;
 
-/// The sites of a text as it is, which has no byte order mark, and after them its calls of a free `require`.
+/// The sites of a text as it is, which has no byte order mark, in this language, and after them its calls of a free
+/// `require`. The media type tells whether it may be a module or a script, and whether its comments refer.
 pub fn read_forms(
     alloc: Global,
     specifier: &Url,
     text: &SourceText,
+    lang: Lang,
     media_type: MediaType,
 ) -> Result<Items<Site>, ParseFault>
     // What is answered are its sites and its calls.
-    ensures found { IfOk result (HasForms media_type text.now) }
+    ensures found { IfOk result (HasForms lang media_type text.now) }
     // A refusal, but for memory, is its fault.
-    ensures refused { IfErr result (Refuses (IsFaultAt (serialize specifier.now) media_type text.now)) }
+    ensures refused { IfErr result (Refuses (IsFaultIn (serialize specifier.now) lang (spec.modes_of media_type) text.now)) }
 {
     match lex_tokens(alloc, text.as_str()) {
-        Ok(lexed) => forms_of_lexed(alloc, specifier, text, media_type, lexed),
+        Ok(lexed) => forms_of_lexed(alloc, specifier, text, lang, media_type, lexed),
         Err(error) => Err(lexical_fault(alloc, specifier, text, error)),
     }
 }
@@ -49,16 +51,17 @@ fn forms_of_lexed(
     alloc: Global,
     specifier: &Url,
     text: &SourceText,
+    lang: Lang,
     media_type: MediaType,
     lexed: Lexed,
 ) -> Result<Items<Site>, ParseFault>
     requires { Reads text.now lexed.tokens lexed.comments }
-    ensures found { IfOk result (HasForms media_type text.now) }
-    ensures refused { IfErr result (Refuses (IsFaultAt (serialize specifier.now) media_type text.now)) }
+    ensures found { IfOk result (HasForms lang media_type text.now) }
+    ensures refused { IfErr result (Refuses (IsFaultIn (serialize specifier.now) lang (spec.modes_of media_type) text.now)) }
 {
     let tokens = lexed.tokens.as_slice();
-    match read_tree(alloc, media_type, tokens) {
-        Ok(row) => forms_of_row(alloc, media_type, text, &lexed, row.as_slice()),
+    match read_tree(alloc, lang, media_type, tokens) {
+        Ok(row) => forms_of_row(alloc, lang, media_type, text, &lexed, row.as_slice()),
         Err(error) => Err(tokens_fault(alloc, specifier, text, tokens, error)),
     }
 }
@@ -82,19 +85,28 @@ fn tokens_fault(
 
 fn forms_of_row(
     alloc: Global,
+    lang: Lang,
     media_type: MediaType,
     text: &SourceText,
     lexed: &Lexed,
     row: &[Entry],
 ) -> Result<Items<Site>, ParseFault>
     requires reads { Reads text.now lexed.now.tokens lexed.now.comments }
-    requires holds { HoldsFirst (spec.language_of media_type) (keys_of lexed.now.tokens) (spec.modes_of media_type) row.now }
-    ensures found { IfOk result (HasForms media_type text.now) }
+    requires holds { HoldsFirst lang (keys_of lexed.now.tokens) (spec.modes_of media_type) row.now }
+    ensures found { IfOk result (HasForms lang media_type text.now) }
     ensures memory { IfErr result (λ e. e ≡ ParseFault.OutOfMemory) }
 {
     let tokens = lexed.tokens.as_slice();
     let comments = lexed.comments.as_slice();
-    match all_forms(alloc, media_type, text.as_str(), tokens, comments, row) {
+    match all_forms(
+        alloc,
+        lang,
+        media_type,
+        text.as_str(),
+        tokens,
+        comments,
+        row,
+    ) {
         Ok(all) => Ok(all),
         Err(_) => Err(ParseFault::OutOfMemory),
     }
@@ -103,6 +115,7 @@ fn forms_of_row(
 // The sites of the tree, and after them its calls.
 fn all_forms(
     alloc: Global,
+    lang: Lang,
     media_type: MediaType,
     text: &str,
     tokens: &[Token],
@@ -110,10 +123,10 @@ fn all_forms(
     row: &[Entry],
 ) -> Result<Items<Site>, AllocError>
     requires reads { Reads text.now tokens.now comments.now }
-    requires holds { HoldsFirst (spec.language_of media_type) (keys_of tokens.now) (spec.modes_of media_type) row.now }
-    ensures { IfOk result (HasForms media_type text.now) }
+    requires holds { HoldsFirst lang (keys_of tokens.now) (spec.modes_of media_type) row.now }
+    ensures { IfOk result (HasForms lang media_type text.now) }
 {
-    let sites = sites_of_row(alloc, media_type, text, tokens, comments, row)?;
+    let sites = sites_of_row(alloc, lang, media_type, text, tokens, comments, row)?;
     let calls = require_sites(alloc, text, tokens, &Siblings { entries: row })?;
     with_sites(sites, calls)
 }
@@ -121,6 +134,7 @@ fn all_forms(
 // Reference comments come first.
 fn sites_of_row(
     alloc: Global,
+    lang: Lang,
     media_type: MediaType,
     text: &str,
     tokens: &[Token],
@@ -128,8 +142,8 @@ fn sites_of_row(
     row: &[Entry],
 ) -> Result<Items<Site>, AllocError>
     requires reads { Reads text.now tokens.now comments.now }
-    requires holds { HoldsFirst (spec.language_of media_type) (keys_of tokens.now) (spec.modes_of media_type) row.now }
-    ensures { IfOk result (HasSites media_type text.now) }
+    requires holds { HoldsFirst lang (keys_of tokens.now) (spec.modes_of media_type) row.now }
+    ensures { IfOk result (HasSitesIn lang media_type text.now) }
 {
     let references = references_in(alloc, media_type, tokens, comments)?;
     let found = tree_sites(alloc, text, tokens, row)?;

@@ -1,8 +1,10 @@
-//! An analyser by which calls of a free `require` are edges too, if that is chosen.
+//! An analyser by which, if that is chosen, calls of a free `require` are edges too, and forms are read that a media type's own
+//! language leaves out.
 //!
 //! - `FormsAnalyzer`: reads exactly the sites of a source, after them its calls of `require` where `commonjs` is true, or
-//!   its first fault (`ReadsBy`, `specs/Forms.antt`).
-//! - `read_forms(alloc, specifier, text, media_type)`: the same of a text at hand.
+//!   its first fault, in the language of its media type, or with `all_forms` in `full_language` (`ReadsBy`,
+//!   `specs/Forms.antt`).
+//! - `read_forms(alloc, specifier, text, lang, media_type)`: the sites and the calls of a text at hand.
 //!
 //! A source is read as one thing at most (`reads_by_once`, `specs/Laws.antt`), and each site cuts
 //! its literal (`reads_by_cuts`, `proofs/Theorems.antt`).
@@ -11,6 +13,7 @@
 
 mod analyzer;
 mod forms;
+mod language;
 mod tree;
 
 pub use analyzer::FormsAnalyzer;

@@ -14,21 +14,21 @@ use es_syntax::Entry;
 use es_token::Token;
 use grammar_theory::{Lang, Mode, SyntaxError};
 use media_type::MediaType;
-use source_sites::{Modes, language_of, modes_of};
+use source_sites::{Modes, modes_of};
 use std::alloc::Global;
 
 /// The tree of a source of this media type with these tokens, as a row of entries: that in the first of its modes in which
-/// there is one.
+/// there is one in this language.
 pub fn read_tree(
     alloc: Global,
+    lang: Lang,
     media_type: MediaType,
     tokens: &[Token],
 ) -> Result<Vec<Entry>, SyntaxError>
-    ensures made { IfOk result (λ row. HoldsFirst (spec.language_of media_type) (keys_of tokens.now) (spec.modes_of media_type) row.items) }
-    ensures only { (tree : Kept) → IsFirstKept (spec.language_of media_type) (keys_of tokens.now) (spec.modes_of media_type) tree
+    ensures made { IfOk result (λ row. HoldsFirst lang (keys_of tokens.now) (spec.modes_of media_type) row.items) }
+    ensures only { (tree : Kept) → IsFirstKept lang (keys_of tokens.now) (spec.modes_of media_type) tree
         → GivesTree result tree }
 {
-    let lang = language_of(media_type);
     first_tree(alloc, lang, modes_of(media_type), tokens)
 }
 

@@ -12,21 +12,24 @@ use Rattle.graph_bundle.proofs.BundleLemmas.{members_unforced}
 use Rattle.forms_build.specs.declared.bundle.FormsBundle.{FormsBundle}
 use Rattle.forms_build.specs.Bundle.{knows_forms, forms_from_by, forms_from, forms_of}
 
--- what a choice and a bundle say together has the bundle
-forms_chosen : (commonjs : Reading Bool) (chosen : Reading ChosenBundle) (forms : FormsBundle)
-    → and_then (λ c. and_then (λ b. Ok (record { chosen = b; commonjs = c })) chosen) commonjs ≡ Ok forms
+-- what two choices and a bundle say together has the bundle
+forms_chosen : (commonjs all : Reading Bool) (chosen : Reading ChosenBundle) (forms : FormsBundle)
+    → and_then (λ c. and_then (λ a. and_then (λ b. Ok (record { chosen = b; commonjs = c; all_forms = a })) chosen) all)
+    commonjs ≡ Ok forms
     → chosen ≡ Ok forms.chosen
-forms_chosen (Err at) chosen forms is = absurd (cc)
-forms_chosen (Ok commonjs) (Err at) forms is = absurd (cc)
-forms_chosen (Ok commonjs) (Ok chosen) forms is =
-    let same : record { chosen = chosen; commonjs = commonjs } ≡ forms = cc in
+forms_chosen (Err at) all chosen forms is = absurd (cc)
+forms_chosen (Ok commonjs) (Err at) chosen forms is = absurd (cc)
+forms_chosen (Ok commonjs) (Ok all) (Err at) forms is = absurd (cc)
+forms_chosen (Ok commonjs) (Ok all) (Ok chosen) forms is =
+    let same : record { chosen = chosen; commonjs = commonjs; all_forms = all } ≡ forms = cc in
     ap (λ (f : FormsBundle). Ok f.chosen) same
 
 pub members_free : (knows : List ℕ → Bool) (value : Data) (members : Members) (forms : FormsBundle)
     → forms_from_by knows value members ≡ Ok forms → list_any is_forced forms.chosen.bundle.arrival ≡ false
 members_free knows value members forms is =
     members_unforced knows value members forms.chosen
-    (forms_chosen (optional bool_of false (codes "commonJs") value) (chosen_from_by knows value members) forms is)
+    (forms_chosen (optional bool_of false (codes "commonJs") value) (optional bool_of false (codes "allForms") value)
+    (chosen_from_by knows value members) forms is)
 
 pub forms_unforced : (value : Data) (forms : FormsBundle) → forms_of value ≡ Ok forms
     → list_any is_forced forms.chosen.bundle.arrival ≡ false

@@ -15,8 +15,9 @@ use Rattle.graph_builder.specs.Builder.{BuildingBy, new_building_by}
 use Rattle.graph_bundle.specs.declared.bundle.Bundle.{Bundle}
 use Rattle.graph_run.specs.Run.{bundle_resolves, bundle_starts}
 use Rattle.graph_run.specs.Steps.{BundleWays, IsFresh, IsNew, SaysLarge, bundle_ways, mapped_resolves}
+use Rattle.forms_analyzer.specs.declared.analyzer.FormsAnalyzer.{FormsAnalyzer}
 use Rattle.forms_build.specs.declared.bundle.FormsBundle.{FormsBundle}
-use Rattle.forms_build.specs.Forms.{IsGraphOf, forms_rules, FormsWays, rules_in, ways_of, ways_reading, reread}
+use Rattle.forms_build.specs.Forms.{IsGraphOf, analyzer_of, forms_rules, FormsWays, rules_in, ways_of, ways_reading, reread}
 
 -- a builder over a loader to which nothing happened yet is new
 new_of : {L W : Type 0} (own : W) (resolves : Resolves) (roots : List Parts) (imports : List ReferrerImports)
@@ -32,17 +33,18 @@ new_of own resolves roots imports limit loader seen fresh = record {
 }
 
 -- so is one that reads otherwise
-pub reread_new : (is_allowed commonjs : Bool) (plain : BuildingBy Memory BundleWays) (b : BuildingBy Memory FormsWays)
-    → b ≡ reread is_allowed commonjs plain → IsFresh (data_of plain.loader) → IsNew (data_of b.loader) b
-reread_new is_allowed commonjs plain b again fresh =
+pub reread_new : (is_allowed : Bool) (analyzer : FormsAnalyzer) (plain : BuildingBy Memory BundleWays)
+    (b : BuildingBy Memory FormsWays)
+    → b ≡ reread is_allowed analyzer plain → IsFresh (data_of plain.loader) → IsNew (data_of b.loader) b
+reread_new is_allowed analyzer plain b again fresh =
     subst (λ (x : BuildingBy Memory FormsWays). IsNew (data_of x.loader) x) (sym again)
-    (new_of (ways_reading is_allowed commonjs plain.following) (mapped_resolves plain.following.resolver.map)
+    (new_of (ways_reading is_allowed analyzer plain.following) (mapped_resolves plain.following.resolver.map)
     plain.roots plain.imports plain.limit plain.loader (data_of plain.loader) fresh)
 
 -- what a bundle with choices goes by
 abbrev pub ways_chosen : FormsBundle → FormsWays
 ways_chosen forms =
-    ways_reading forms.chosen.json_without_attribute forms.commonjs (bundle_ways forms.chosen.bundle)
+    ways_reading forms.chosen.json_without_attribute (analyzer_of forms) (bundle_ways forms.chosen.bundle)
 
 -- a plain builder of a bundle
 pub record IsPlain (bundle : Bundle) (plain : BuildingBy Memory BundleWays) : Type 0 where
@@ -54,12 +56,12 @@ pub record IsPlain (bundle : Bundle) (plain : BuildingBy Memory BundleWays) : Ty
 
 -- what is polled of a builder that goes by the bundle's choice is the bundle's graph, or it is too large
 module _ (forms : FormsBundle) (plain : BuildingBy Memory BundleWays)
-    (b : BuildingBy Memory FormsWays) (again : b ≡ reread forms.chosen.json_without_attribute forms.commonjs plain)
+    (b : BuildingBy Memory FormsWays) (again : b ≡ reread forms.chosen.json_without_attribute (analyzer_of forms) plain)
     (is : IsPlain forms.chosen.bundle plain) where
   ways : b.following ≡ ways_chosen forms
   ways =
       ap (λ (x : BuildingBy Memory FormsWays). x.following) again
-      ∙ ap (ways_reading forms.chosen.json_without_attribute forms.commonjs) is.ways
+      ∙ ap (ways_reading forms.chosen.json_without_attribute (analyzer_of forms)) is.ways
 
   starting : b.starting ≡ bundle_starts forms.chosen.bundle
   starting =
@@ -92,7 +94,8 @@ module _ (forms : FormsBundle) (plain : BuildingBy Memory BundleWays)
         ∙ ap (map (referred_by (bundle_resolves forms.chosen.bundle))) imports;
     entries = subst (λ (w : FormsWays). IsGraph (rules_in w) (bundle_starts forms.chosen.bundle)
         (tells forms.chosen.bundle.modules) g.entries) ways
-        (subst (λ (ss : List Specifier). IsGraph (rules_in b.following) ss (tells forms.chosen.bundle.modules) g.entries)
+        (subst (λ (ss : List Specifier). IsGraph (rules_in b.following) ss (tells forms.chosen.bundle.modules)
+        g.entries)
         starting
         (subst (λ (ms : List (Parts × LoadAnswer)). IsGraph (rules_in b.following) b.starting (tells ms) g.entries)
         modules graph));

@@ -1,4 +1,4 @@
--- The graph of a bundle with choices, where calls of `require` count too, or don't.
+-- The graph of a bundle with choices, where calls of `require` count too, or don't, and all forms are read, or not.
 use Rattle.std.specs.Prelude.{◌≡◌, Bool, ℕ, ◌≤◌, length, map}
 use Rattle.graph_entry.specs.Ways.{Ways, ways_by}
 use Rattle.graph_entry.specs.Analysed.{AnalysedBy}
@@ -17,10 +17,14 @@ use Rattle.forms_analyzer.specs.declared.analyzer.FormsAnalyzer.{FormsAnalyzer}
 use Rattle.forms_analyzer.specs.Forms.{ReadsBy}
 use Rattle.forms_build.specs.declared.bundle.FormsBundle.{FormsBundle}
 
+-- what reads its sources
+abbrev pub analyzer_of : FormsBundle → FormsAnalyzer
+analyzer_of forms = record { commonjs = forms.commonjs; all_forms = forms.all_forms }
+
 -- the rules of its graph
 abbrev pub forms_rules : FormsBundle → Rules
 forms_rules forms =
-    rules_by (AnalysedBy (ways_by (bundle_resolving forms.chosen.bundle) (ReadsBy forms.commonjs)))
+    rules_by (AnalysedBy (ways_by (bundle_resolving forms.chosen.bundle) (ReadsBy forms.commonjs forms.all_forms)))
     (json_allowed forms.chosen.json_without_attribute (following_of forms.chosen.bundle.options))
 
 -- the graph: of the bundle's roots and of what places outside import, over its modules, within its limit
@@ -39,22 +43,22 @@ FormsWays = Own BundleResolver FormsAnalyzer
 
 -- where specifiers lead by it, and how sources are read
 abbrev pub ways_of : FormsWays → Ways
-ways_of own = ways_by (resolving_or map_resolve own.resolver.map) (ReadsBy own.analyzer.commonjs)
+ways_of own = ways_by (resolving_or map_resolve own.resolver.map) (ReadsBy own.analyzer.commonjs own.analyzer.all_forms)
 
 -- the rules of a graph by it
 abbrev pub rules_in : FormsWays → Rules
 rules_in own = rules_by (AnalysedBy (ways_of own)) own.following
 
 -- the ways of a bundle's builder with these choices
-abbrev pub ways_reading : Bool → Bool → BundleWays → FormsWays
-ways_reading is_allowed commonjs ways = record {
+abbrev pub ways_reading : Bool → FormsAnalyzer → BundleWays → FormsWays
+ways_reading is_allowed analyzer ways = record {
   following = json_allowed is_allowed ways.following;
   resolver = ways.resolver;
-  analyzer = record { commonjs = commonjs };
+  analyzer = analyzer;
 }
 
 -- the builder of the same that goes by these, over the same loader
-abbrev pub reread : Bool → Bool → BuildingBy Memory BundleWays → BuildingBy Memory FormsWays
-reread is_allowed commonjs b =
-    new_building_by (ways_reading is_allowed commonjs b.following) (mapped_resolves b.following.resolver.map) b.roots
+abbrev pub reread : Bool → FormsAnalyzer → BuildingBy Memory BundleWays → BuildingBy Memory FormsWays
+reread is_allowed analyzer b =
+    new_building_by (ways_reading is_allowed analyzer b.following) (mapped_resolves b.following.resolver.map) b.roots
     b.imports b.limit b.loader (data_of b.loader)

@@ -31,35 +31,51 @@ pub fn build_forms<R: Threads + Sync>(
     ensures large { IfErr result (SaysLarge (forms_rules forms) (bundle_starts forms.chosen.bundle)
         (tells forms.chosen.bundle.modules) forms.chosen.bundle.options.limit) }
 {
-    let FormsBundle { chosen, commonjs } = forms;
+    let FormsBundle {
+        chosen,
+        commonjs,
+        all_forms,
+    } = forms;
     let ChosenBundle {
         bundle,
         json_without_attribute,
     } = chosen;
     let plain = new_build(alloc, bundle)?;
-    let mut build = reading(plain, json_without_attribute, commonjs)?;
+    let analyzer = FormsAnalyzer {
+        commonjs,
+        all_forms,
+    };
+    let mut build = reading(plain, json_without_attribute, analyzer)?;
     poll_forms(rt, &mut build, batch)
 }
 
-/// The same builder, where an import without an attribute may be of JSON, or may not, and calls of `require` count, or don't.
-fn reading(build: BundleBuild, is_allowed: bool, commonjs: bool) -> Result<FormsBuild, BuildError>
+/// The same builder, where an import without an attribute may be of JSON, or may not, with this analyser.
+fn reading(
+    build: BundleBuild,
+    is_allowed: bool,
+    analyzer: FormsAnalyzer,
+) -> Result<FormsBuild, BuildError>
     requires { IsFresh (data_of build.inner.loader) }
-    ensures again { IfOk result (λ b. b.inner ≡ reread is_allowed commonjs build.inner) }
+    ensures again { IfOk result (λ b. b.inner ≡ reread is_allowed analyzer build.inner) }
     ensures new { IfOk result (λ b. IsNew (data_of b.inner.loader) b.inner) }
     ensures refused { IfErr result (λ e. e ≡ BuildError.OutOfMemory) }
 {
-    match reread(build, is_allowed, commonjs) {
+    match reread(build, is_allowed, analyzer) {
         Ok(again) => Ok(again),
         Err(_) => Err(BuildError::OutOfMemory),
     }
 }
 
-fn reread(build: BundleBuild, is_allowed: bool, commonjs: bool) -> Result<FormsBuild, AllocError>
-    ensures { IfOk result (λ b. b.inner ≡ reread is_allowed commonjs build.inner) }
+fn reread(
+    build: BundleBuild,
+    is_allowed: bool,
+    analyzer: FormsAnalyzer,
+) -> Result<FormsBuild, AllocError>
+    ensures { IfOk result (λ b. b.inner ≡ reread is_allowed analyzer build.inner) }
 {
     build
         .with_json_without_attribute(is_allowed)?
-        .with_analyzer(FormsAnalyzer { commonjs })
+        .with_analyzer(analyzer)
 }
 
 /// Polls by batches until there is another answer than `NotYet`.

@@ -1,4 +1,4 @@
-//! Bundles with choices, and with one more: whether calls of `require` count.
+//! Bundles with choices, and with two more: whether calls of `require` count, and whether all forms are read.
 ghost use Rattle.std.specs.Prelude.{◌≡◌, ℕ, List, IfOk, Err, Ok};
 ghost use Rattle.serde_json.specs.Data.{Data};
 ghost use Rattle.serde_json.specs.View.{view, members_view};
@@ -19,6 +19,8 @@ pub struct FormsBundle {
     pub chosen: ChosenBundle,
     /// Calls of a free `require` are edges too.
     pub commonjs: bool,
+    /// Forms are read too that a media type's own language leaves out.
+    pub all_forms: bool,
 }
 
 /// The bundle that the bytes say, which are given back as soon as they are read, before the texts of the modules are made.
@@ -81,8 +83,16 @@ pub fn forms_with<K: Keys>(
         Ok(commonjs) => commonjs,
         Err(at) => return Ok(Err(at)),
     };
+    let all_forms = match optional(alloc, value, "allForms", false)? {
+        Ok(all_forms) => all_forms,
+        Err(at) => return Ok(Err(at)),
+    };
     match chosen_with::<K>(alloc, value, members)? {
-        Ok(chosen) => Ok(Ok(FormsBundle { chosen, commonjs })),
+        Ok(chosen) => Ok(Ok(FormsBundle {
+            chosen,
+            commonjs,
+            all_forms,
+        })),
         Err(at) => Ok(Err(at)),
     }
 }
@@ -94,6 +104,6 @@ impl Keys for FormsKeys {
     ghost knows = { spec.knows_forms };
 
     fn knows(key: &str) -> bool {
-        ChosenKeys::knows(key) || key == "commonJs"
+        ChosenKeys::knows(key) || key == "commonJs" || key == "allForms"
     }
 }

@@ -15,7 +15,7 @@ use Rattle.media_type.specs.declared.media_type.MediaType.{MediaType}
 use Rattle.parse_diagnostic.specs.declared.kind.SyntaxErrorKind.{SyntaxErrorKind}
 use Rattle.parse_diagnostic.specs.declared.kind.SyntaxErrorKind.TheVariants.{Lexical}
 use Rattle.source_reading.specs.Tree.{language_of, modes_of, IsFirstTree}
-use Rattle.source_reading.specs.Read.{references_in, IsRead, IsRefused, no_tokens, no_tree, at_place, HasSites, IsFaulty}
+use Rattle.source_reading.specs.Read.{references_in, IsRead, IsRefused, no_tokens, no_tree, at_place, HasSitesIn, HasSites, IsFaulty}
 use Rattle.source_reading.specs.Cuts.{Cuts}
 use Rattle.source_reading.proofs.TreeLemmas.{first_once, tree_cuts}
 use Rattle.source_reading.proofs.ReferenceLemmas.{references_cut}
@@ -57,34 +57,49 @@ module _ (lang : Lang) (modes : List Mode) (text : List ℕ) where
   one_refusal k l r q (no_tree tokens reads none is at) (no_tree others also nothing so to) =
       (is ∙ sym so, at ∙ sym to)
 
--- ---- a source of a media type
+-- ---- a source of a media type, in a language
 
-module _ (media : MediaType) (text : List ℕ) where
+module _ (lang : Lang) (media : MediaType) (text : List ℕ) where
   -- its sites are one list at most
-  pub one_sites : (found other : List Site) → HasSites media text found → HasSites media text other → found ≡ other
-  one_sites found other one also =
-      let same = one_read (language_of media) (modes_of media) text media one.tree also.tree one.references
+  pub one_sites_in : (found other : List Site) → HasSitesIn lang media text found → HasSitesIn lang media text other
+      → found ≡ other
+  one_sites_in found other one also =
+      let same = one_read lang (modes_of media) text media one.tree also.tree one.references
       also.references one.read also.read in
       one.both ∙ ap (λ (r : List Site). r ++ sites_of one.tree) same.1
       ∙ ap (λ (t : Program). also.references ++ sites_of t) same.0 ∙ sym also.both
 
-  pub sites_or_fault : (found : List Site) (kind : SyntaxErrorKind) (range : Option Range) → HasSites media text found
-      → IsFaulty media text kind range → ⊥
-  sites_or_fault found kind range has faulty =
-      not_both (language_of media) (modes_of media) text media has.tree has.references kind range has.read faulty
-
-  pub one_fault_of : (k l : SyntaxErrorKind) (r q : Option Range) → IsFaulty media text k r → IsFaulty media text l q
-      → (k ≡ l) × (r ≡ q)
-  one_fault_of = one_refusal (language_of media) (modes_of media) text
+  pub sites_or_refusal : (found : List Site) (kind : SyntaxErrorKind) (range : Option Range)
+      → HasSitesIn lang media text found → IsRefused lang (modes_of media) text kind range → ⊥
+  sites_or_refusal found kind range has refused =
+      not_both lang (modes_of media) text media has.tree has.references kind range has.read refused
 
   -- and each cuts its value
-  pub sites_cut : (found : List Site) → HasSites media text found
+  pub sites_in_cut : (found : List Site) → HasSitesIn lang media text found
       → All (λ site. Cuts text site.range site.value) found
-  sites_cut found has =
+  sites_in_cut found has =
       let P : Site → Type 0 = λ site. Cuts text site.range site.value in
       subst (All P) (sym has.both)
       (All-append P has.references (sites_of has.tree)
       (references_cut media text has.read.tokens has.read.comments has.references has.read.reads has.read.refers)
       (All-weaker (λ site. CutsLiteral text site.range site.value) P (λ site cut. inl cut) (sites_of has.tree)
-      (tree_cuts (language_of media) (modes_of media) text has.read.tokens has.tree
+      (tree_cuts lang (modes_of media) text has.read.tokens has.tree
       (has.read.comments, has.read.reads) has.read.is_tree)))
+
+-- ---- in that of its media type
+
+module _ (media : MediaType) (text : List ℕ) where
+  pub one_sites : (found other : List Site) → HasSites media text found → HasSites media text other → found ≡ other
+  one_sites = one_sites_in (language_of media) media text
+
+  pub sites_or_fault : (found : List Site) (kind : SyntaxErrorKind) (range : Option Range) → HasSites media text found
+      → IsFaulty media text kind range → ⊥
+  sites_or_fault = sites_or_refusal (language_of media) media text
+
+  pub one_fault_of : (k l : SyntaxErrorKind) (r q : Option Range) → IsFaulty media text k r → IsFaulty media text l q
+      → (k ≡ l) × (r ≡ q)
+  one_fault_of = one_refusal (language_of media) (modes_of media) text
+
+  pub sites_cut : (found : List Site) → HasSites media text found
+      → All (λ site. Cuts text site.range site.value) found
+  sites_cut = sites_in_cut (language_of media) media text

@@ -1,22 +1,17 @@
-use Rattle.std.proofs.Common.{refl, ap, subst, List, ℕ, Err}
-use Rattle.url.specs.Parts.{serialize}
-use Rattle.parse_diagnostic.specs.Diagnosis.{told_range}
-use Rattle.source_reading.specs.Fault.{IsFaultAt, Refuses}
+use Rattle.std.proofs.Common.{sym, subst, Bool}
+use Rattle.std.specs.Prelude.{false}
 use Rattle.graph_entry.specs.Specifier.{text_of}
-use Rattle.graph_entry.specs.Reading.{diagnosis_at, with_sites, no_program}
+use Rattle.graph_entry.specs.Reading.{IsAnalysis}
+use Rattle.forms_analyzer.specs.Forms.{ReadsBy}
 use Rattle.forms_analyzer.proofs.analyzer.without_calls.Goals as goal
 
--- the sites of the source
-pub returns-in-Ok : goal.returns-in-Ok
-returns-in-Ok c = with_sites c.in-Ok.sites c.in-Ok.ensures.found refl
+-- by the choice
+pub returns-then-all_forms : goal.returns-then-all_forms
+returns-then-all_forms c =
+    subst (λ (b : Bool). IsAnalysis (ReadsBy false b (text_of c.args.specifier.now) c.args.media_type c.args.text.now)
+    c.full_sites.result) (sym c.if-all_forms.true) c.full_sites.ensures
 
--- its fault
-pub returns-in-Err-Diagnostic : goal.returns-in-Err-Diagnostic
-unfolding text_of
-returns-in-Err-Diagnostic c =
-    let fault = c.in-Err-Diagnostic.fault in
-    let is : IsFaultAt (serialize c.args.specifier.now) c.args.media_type c.args.text.now fault
-    = subst (Refuses (IsFaultAt (serialize c.args.specifier.now) c.args.media_type c.args.text.now))
-    c.in-Err-Diagnostic.field-0-is c.in-Err-Diagnostic.ensures.refused in
-    no_program fault.kind (told_range fault.kind fault.range) is.1
-    (ap (λ (s : List ℕ). Err (diagnosis_at s fault.kind (told_range fault.kind fault.range))) is.0)
+pub returns : goal.returns
+returns c =
+    subst (λ (b : Bool). IsAnalysis (ReadsBy false b (text_of c.args.specifier.now) c.args.media_type c.args.text.now)
+    c.own_sites.result) (sym c.if-all_forms.false) c.own_sites.ensures

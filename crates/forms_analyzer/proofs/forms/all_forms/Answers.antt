@@ -7,6 +7,6 @@ pub returns : goal.returns
 returns c =
     IfOk-weaker c.with_sites.result _ _
     (λ all both.
-    row_has_forms c.args.media_type c.args.text.now c.args.tokens.now c.args.comments.now c.requires.reads
+    row_has_forms c.args.lang c.args.media_type c.args.text.now c.args.tokens.now c.args.comments.now c.requires.reads
     c.args.row.now c.requires.holds c.in_ok-sites.sites c.in_ok-calls.calls all c.in_ok-sites.ensures
     c.in_ok-calls.ensures both) c.with_sites.ensures

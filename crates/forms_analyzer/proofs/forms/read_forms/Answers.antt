@@ -1,7 +1,7 @@
 use Rattle.std.proofs.Common.{ap, subst, List, ℕ, Err}
 use Rattle.url.specs.Parts.{serialize}
 use Rattle.es_lexer.specs.Stops.{Stops}
-use Rattle.source_reading.specs.Tree.{language_of, modes_of}
+use Rattle.source_reading.specs.Tree.{modes_of}
 use Rattle.source_sites.proofs.FaultLemmas.{Refuses-weaker, lexical_refusal}
 use Rattle.forms_analyzer.proofs.forms.read_forms.Goals as goal
 
@@ -14,6 +14,6 @@ returns-in-Err-clause-refused c =
     let fault = told.0 in
     let stops = subst (λ (t : List ℕ). Stops t fault.kind fault.at) c.as_str.ensures
     (c.in-Err.ensures.stopped fault (ap Err told.1)) in
-    lexical_refusal (serialize c.args.specifier.now) (language_of media) (modes_of media) c.args.text.now d fault stops
+    lexical_refusal (serialize c.args.specifier.now) c.args.lang (modes_of media) c.args.text.now d fault stops
     told.2)
     c.lexical_fault.result c.lexical_fault.ensures

@@ -7,7 +7,8 @@ use Rattle.forms_analyzer.proofs.tree.module_tree.Goals as goal
 pub returns-clause-made : goal.returns-clause-made
 returns-clause-made c =
     IfOk-weaker c.read_program.result _ _
-    (λ row holds. holds_later c.args.lang (keys_of c.args.tokens.now) mode.Script mode.Module row.items c.requires holds)
+    (λ row holds. holds_later c.args.lang (keys_of c.args.tokens.now) mode.Script mode.Module row.items c.requires
+    holds)
     c.read_program.ensures.kept
 
 pub returns-clause-only : goal.returns-clause-only
