@@ -46,8 +46,9 @@ class Run:
         # Rules are asked of a bundle, which the library has none of.
         asked.loader = "program" if self.rules else asked.loader
         asked.roots = list(self.roots(asked.roots or [asked.folder or project.named_above(os.getcwd())]))
-        # Calls of require are edges of the second program's graphs alone.
-        self.program = made_program("program" if asked.commonjs else asked.loader)
+        # Calls of require are edges of the second program's graphs alone, and it alone reads all forms.
+        self.program = made_program("program" if asked.commonjs or asked.all_forms else asked.loader)
+        self.program.forms = {"allForms": True} if asked.all_forms else {}
         packer, roots = self.packed()
         self.choices = packer.choices
         self.front = front_of(asked.folder)
@@ -103,7 +104,7 @@ class Run:
     def packed(self):
         """The packer of the project's folder: of a greater one where a specifier leads out of it and there is one."""
         folders = [os.path.abspath(self.asked.folder)] if self.asked.folder else project.folders_of(self.paths)
-        kept = None if self.asked.no_cache else records.Records(self.program, ("commonJs",) * self.asked.commonjs)
+        kept = None if self.asked.no_cache else records.Records(self.program, [key for key in packing.OF_SOURCES if getattr(self.asked, packing.CHOICES[key])])
         for number, folder in enumerate(folders):
             packer, roots = packing.packed(self.settled(folder), self.program.reader(self.program, kept, self.asked.check_cache), sys.stderr)
             if not packer.leads_out or number == len(folders) - 1:

@@ -204,7 +204,7 @@ class Packer:
         self.takes_any = "*" in asked.also
         self.choices = choices_of(asked)
         self.has_choices = bool(self.choices)
-        reader.choices = {key: True for key in self.choices if key == "commonJs"}
+        reader.choices = {key: True for key in self.choices if key in OF_SOURCES}
         self.contents = {}  # what the bundle would have for each file that was read
         self.sizes = {}
         self.why = {}
@@ -476,10 +476,14 @@ class Packer:
         raise Wrong(f"too large: {size:,} bytes, and the program reads at most {most:,}; --exclude leaves out; the largest of {len(self.taken):,} files:{rows}")
 
 
+# The keys of a bundle that the second program alone knows, each with its option; those that say how a source is read.
+CHOICES = {"jsonWithoutAttribute": "json_without_attribute", "commonJs": "commonjs", "allForms": "all_forms"}
+OF_SOURCES = ("commonJs", "allForms")
+
+
 def choices_of(asked):
-    """The keys of a bundle that the second program alone knows."""
-    said = {"jsonWithoutAttribute": "json_without_attribute", "commonJs": "commonjs"}
-    return {key: True for key, name in said.items() if getattr(asked, name, False)}
+    """The choices that are asked for."""
+    return {key: True for key, name in CHOICES.items() if getattr(asked, name, False)}
 
 
 def text_of(value, modules):

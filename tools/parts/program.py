@@ -20,6 +20,7 @@ class NoProgram(Exception):
 
 class Program:
     reader = sites.Reader
+    forms = {}  # the key of a bundle by which all forms are read, if they are
 
     def __init__(self, who):
         """The program: of a release, the proved one, or the same compiled without its proofs, which `who` reports."""
@@ -66,15 +67,15 @@ class Program:
     def graph(self, settings, modules):
         """The status and the report of the graph of a bundle, by its modules and what else it has."""
         value = {**settings, "modules": modules}
-        return self.report(json.dumps(value, ensure_ascii=False).encode("utf-8", "surrogatepass"), bool({"jsonWithoutAttribute", "commonJs"} & set(settings)))
+        return self.report(json.dumps(value, ensure_ascii=False).encode("utf-8", "surrogatepass"), bool({"jsonWithoutAttribute", "commonJs", "allForms"} & set(settings)))
 
     def which_are_read(self, specifier, texts):
         """Of each text whether it is a program of the grammar, as a module of this specifier's ending."""
         ending = specifier.rpartition("/")[2].partition(".")[2] or "js"
         names = [f"file:///{number}.{ending}" for number in range(len(texts))]
         modules = [{"specifier": name, "text": text} for name, text in zip(names, texts)]
-        bundle = {"roots": names, "kind": "code", "limit": 1_000_000, "modules": modules}
-        status, report = self.report(json.dumps(bundle).encode("utf-8", "surrogatepass"))
+        bundle = {"roots": names, **self.forms, "kind": "code", "limit": 1_000_000, "modules": modules}
+        status, report = self.report(json.dumps(bundle).encode("utf-8", "surrogatepass"), bool(self.forms))
         if status:
             raise NoProgram(report.decode().strip())
         wanted = {f"{name} error Parse" for name in names}

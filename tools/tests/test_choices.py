@@ -104,6 +104,31 @@ class CommonJs(Project):
         self.assertEqual(resolve.Ways(["a"]).of_require().conditions, {"a", "require", "node", "default"})
 
 
+class AllForms(Project):
+    FILES = {"package.json": {}, "a.ts": 'import b from "./b";\nexport default <any>b;', "b.ts": "export default <const>[1];"}
+
+    def test_assertions_are_read_by_choice(self):
+        self.put(self.FILES)
+        self.assertEqual(self.ran("check", "--all-forms", "a.ts")[0], 0)
+        self.assertIn('import 14-19 "./b" - -> file:///b.ts\n', self.ran("graph", "--all-forms", "a.ts")[1])
+        self.assertEqual(self.ran("check", "a.ts")[0], 1)
+
+    def test_the_file_of_options_says_it(self):
+        self.put({**self.FILES, "joravelsu.json": {"allForms": True}})
+        self.assertEqual(self.ran("check", "a.ts")[0], 0)
+
+    def test_a_fault_is_told_where_it_is(self):
+        self.put({**self.FILES, "b.ts": "export default <const>[1];\nlet = <a>;"})
+        status, out, _ = self.ran("check", "--all-forms", "a.ts")
+        self.assertEqual((status, out.split(":")[:2]), (1, ["b.ts", "2"]))
+
+    def test_it_is_vendored(self):
+        self.put(self.FILES)
+        self.assertEqual(self.ran("vendor", "--all-forms", "-o", "out", "a.ts")[0], 0)
+        with open(os.path.join(self.room, "out", "a.ts"), encoding="utf-8") as file:
+            self.assertEqual(file.read(), 'import b from "./b.ts";\nexport default <any>b;')
+
+
 class Rules(Project):
     FILES = {"package.json": {}, "src/a.ts": 'import "./b";\nimport type { T } from "../vendor/t";\nimport("./c.test");', "src/b.ts": "export {};", "src/c.test.ts": "export {};", "vendor/t.ts": "export type T = 1;"}
 
