@@ -104,7 +104,8 @@ simple_leaf at = ap is_simple (sym (vCst.rolls-Leaf at)) ∙ simple_at (Cst-F.Le
 
 -- the inner parts of pairs are the pairs of the inner parts
 inner_of : (label : NodeKind) (parts : List Cst)
-    → inner_parts label (map (λ t. (t, is_simple t)) parts) ≡ map (λ t. (t, is_simple t)) (inner_parts label parts)
+    → inner_parts {A = Cst × Bool} label (map (λ t. (t, is_simple t)) parts)
+    ≡ map (λ t. (t, is_simple t)) (inner_parts label parts)
 inner_of l.TypeAssertion [] = refl
 inner_of l.TypeAssertion (asserted ∷ parts) = refl
 inner_of _ parts = refl
@@ -114,7 +115,7 @@ pub simple_node : (label : NodeKind) (from to : ℕ) (parts : List Cst)
 simple_node label from to parts =
     ap is_simple (sym (vCst.rolls-Node label from to parts)) ∙ simple_at (Cst-F.Node label from to parts)
     ∙ ap (λ ps. simple_by label ps (first_is (λ (part : Cst × Bool). part.1)
-    (inner_parts label (map (λ t. (t, is_simple t)) parts)))) (firsts_of is_simple parts)
+    (inner_parts {A = Cst × Bool} label (map (λ t. (t, is_simple t)) parts)))) (firsts_of is_simple parts)
     ∙ ap (λ ps. simple_by label parts (first_is (λ (part : Cst × Bool). part.1) ps)) (inner_of label parts)
     ∙ ap (simple_by label parts) (first_of is_simple (inner_parts label parts))
 
