@@ -2,48 +2,87 @@
 knows no limit of bytes."""
 import json
 import os
-import shutil
 import sys
 
 from parts import kit as kits
-from parts import library, sites, unproved, urls
-from parts.words import MOST_BYTES, Wrong
+from parts import library, outlines, sites, sums, urls
+from parts.words import MOST_BYTES, Wrong, plain, read_regular
 
 # The media types by which texts are read, by the ending of the name.
 MEDIA_TYPES = {".d.ts": 0, ".d.mts": 1, ".d.cts": 2, ".ts": 3, ".mts": 4, ".cts": 5, ".tsx": 6, ".js": 7, ".mjs": 8, ".cjs": 9, ".jsx": 10}
-NO_TOKEN, NO_PROGRAM = NOT_A_PROGRAM = (10, 11)
+NO_UTF8, NO_TOKEN, NO_PROGRAM = 7, 10, 11
+NOT_A_PROGRAM = (NO_TOKEN, NO_PROGRAM)
 # So many bytes are read in a few hundredths of a second.
 FEW_BYTES = 1_000_000
-TYPED = ("import", "export", "import-equals")
 
 
 class Reader(sites.Reader):
-    """Asks the library for the sites of files, each where it is reached."""
+    """Asks the library for the sites of files, each where it is reached. The content of a file has its outline, or none where it
+    is to be read whole; a file whose outline is known isn't read, unless its bytes are asked for."""
 
     reads_ahead = False
     most = sys.maxsize - 1
+
+    def __init__(self, program, records=None, compares=False):
+        super().__init__(program, records, compares)
+        self.kept = {}  # of files that are read to compare, what is kept by their times
 
     @staticmethod
     def content_of(_place, data):
         return {"bytes": data}
 
-    def read_anew(self, contents):
-        found = dict(zip(contents, self.read_each(contents)))
-        for file_sites in found.values():
-            for site in file_sites:
-                if site.value.startswith("data:") and site.value not in self.of_data:
-                    self.of_data.update(self.program.edges_alone(site.value))
+    def load(self, place, path):
+        row = self.records.of_file(place, path) if self.records else None
+        if row is None or self.compares:
+            self.kept[place] = row
+            return super().load(place, path)
+        outline = outlines.of_row(row)
+        return {"outline": outline, "read": lambda: self.read_again(place, path, row[0])}, outline.size
+
+    def read_again(self, place, path, key):
+        data = read_regular(path, self.most)
+        if self.records.key(place, {"bytes": data}) != key:
+            raise Wrong(f"{plain(path)}: it has changed")
+        return data
+
+    def read(self, contents):
+        found = {place: content["outline"].sites for place, content in contents.items() if "outline" in content}
+        new = {place: content for place, content in contents.items() if place not in found}
+        for (place, content), (file_sites, row) in zip(new.items(), self.read_each(new)):
+            found[place] = file_sites
+            if row is not None:
+                content["outline"] = outlines.of_row(row)
+                if self.records:
+                    self.records.keep(place, row)
         return found
 
     def read_each(self, contents):
-        """The sites of each file: of many bytes on several processors, since a call of the library holds no lock of Python's."""
+        """The sites and the row of each file: of many bytes on several processors, since a call of the library holds no lock of
+        Python's."""
         items = [(place, content["bytes"]) for place, content in contents.items()]
         if len(items) < 2 or sum(len(data) for _, data in items) < FEW_BYTES:
-            return [self.program.sites_of(place, data) for place, data in items]
+            return [self.read_one(*item) for item in items]
         from concurrent import futures
 
         with futures.ThreadPoolExecutor(os.cpu_count()) as pool:
-            return list(pool.map(lambda item: self.program.sites_of(*item), items))
+            return list(pool.map(lambda item: self.read_one(*item), items))
+
+    def read_one(self, place, data):
+        """The sites of a file, and its row, or None where it has no outline."""
+        key = self.records.key(place, {"bytes": data}) if self.records else None
+        kept = self.kept.get(place) or (self.records.of_key(key) if self.records else None)
+        if kept is not None and not self.compares:
+            return outlines.of_row(kept).sites, kept
+        found, outline = self.program.read(place, data)
+        row = outlines.row_of(key, outline) if outline else None
+        if kept is not None and kept != row:
+            raise Wrong(f"{plain(place)}: what is cached isn't what the library says")
+        return found, row
+
+    def sites_of_data(self, url):
+        if url not in self.of_data:
+            self.of_data.update({url: (), **self.program.edges_alone(url)})
+        return self.of_data[url]
 
 
 class Library:
@@ -79,7 +118,7 @@ class Library:
             return 1, f"error TooManyModules {error.seen}\n".encode()
         except self.api.BundleError as error:
             return 2, f"{error}\n".encode()
-        return 0, self.lines_of(builder, settings).encode()
+        return 0, self.lines_of(builder, settings, given).encode()
 
     def given(self, modules):
         """The modules by their specifiers as the program reads these."""
@@ -112,9 +151,9 @@ class Library:
             return self.api.Redirect(module["redirect"])
         if "external" in module:
             return self.api.EXTERNAL
-        return module["bytes"]
+        return module["outline"].data if "outline" in module else module["bytes"]
 
-    def lines_of(self, builder, settings):
+    def lines_of(self, builder, settings, given):
         """The report, as docs/REPORT.md has it."""
         entries = sorted(self.api.Graph(builder).entries, key=lambda entry: entry.specifier)
         packages = [entry.specifier for entry in entries if entry.state == "package"]
@@ -128,8 +167,10 @@ class Library:
         lines = frame[:len(roots)] + [line for line in frame if line.startswith("import ")]
         states = {line.split(" ")[0]: line for line in frame if " package " in line and not line.startswith(" ")} if packages else {}
         for entry in entries:
-            lines.append(states.get(entry.specifier) or line_of(entry))
-            lines += map(self.edge_line, entry.edges)
+            outline = given.get(entry.specifier, {}).get("outline")
+            lines.append(states.get(entry.specifier) or line_of(entry, outline))
+            places = places_of(outline)
+            lines += [self.edge_line(edge, places) for edge in entry.edges]
         return "".join(line + "\n" for line in [*lines, f"entries {len(entries)}"])
 
     @staticmethod
@@ -146,27 +187,35 @@ class Library:
         scopes = {scope: some(table) for scope, table in rows.get("scopes", {}).items()}
         return {"importMap": {**settings["importMap"], "map": {"imports": some(rows["imports"]), "scopes": {scope: table for scope, table in scopes.items() if table}}}}
 
-    def edge_line(self, edge):
-        kind = f"{edge.kind}-type" if edge.type_only and edge.kind in TYPED else edge.kind
-        span = f"{edge.start}-{edge.end}" if edge.end else "-"
+    def edge_line(self, edge, places):
+        """The line of an edge. places: those in the text by those in its outline, or None."""
+        kind = f"{edge.kind}-type" if edge.type_only and edge.kind in outlines.TYPED else edge.kind
+        span = "-" if not edge.end else places[edge.start] if places else f"{edge.start}-{edge.end}"
         attribute = "-" if edge.attribute is None else "?" if edge.attribute is self.api.UNKNOWN else quoted(edge.attribute)
         outcome = f"! {edge.fault}" if edge.fault else f"-> {edge.target_specifier}"
         return f"  {kind} {span} {quoted(edge.value)} {attribute} {outcome}"
 
     # ---- texts
 
-    def sites_of(self, place, data):
-        """The sites of a file, and of the data: URLs that it names."""
+    def read(self, place, data):
+        """The sites of a file, and its outline, or None where it has none."""
         ending = sites.ending_of(place)
         if ending is None:
-            return ()
+            return (), outlines.without_sites(data)
         if ending == ".wasm" or len(data) > MOST_BYTES:
-            return self.edges_alone(f"file:///0{ending}", data).get(f"file:///0{ending}", ())
+            return self.edges_alone(f"file:///0{ending}", data).get(f"file:///0{ending}", ()), None
         try:
             found = self.api.imports_of(data, MEDIA_TYPES[ending])
+        except self.api.SourceError as error:
+            return (), outlines.of_no_utf8() if error.status == NO_UTF8 else outlines.of_no_program() if error.status in NOT_A_PROGRAM else None
+        outline = outlines.outline_of(data, found, lambda text: self.sites_or_none(text, MEDIA_TYPES[ending]), self.api.UNKNOWN)
+        return list(dict.fromkeys(map(outlines.named, found))), outline
+
+    def sites_or_none(self, data, media_type):
+        try:
+            return self.api.imports_of(data, media_type)
         except self.api.SourceError:
-            return ()
-        return list(dict.fromkeys(site_of(it) for it in found))
+            return None
 
     def edges_alone(self, root, data=None):
         """The sites of a module, and of each data: URL below it, with nothing else in the graph."""
@@ -179,7 +228,7 @@ class Library:
             for number, specifier in list(builder.wanted(start)):
                 builder.answer(number, data if specifier == root else None)
                 start = number + 1
-        return {entry.specifier: list(dict.fromkeys(map(site_of, entry.edges))) for entry in self.api.Graph(builder).entries if entry.edges}
+        return {entry.specifier: list(dict.fromkeys(map(outlines.named, entry.edges))) for entry in self.api.Graph(builder).entries if entry.edges}
 
     def which_are_read(self, specifier, texts):
         """Of each text whether it is a program of the grammar, as a module of this specifier's ending."""
@@ -204,10 +253,6 @@ class Library:
         return len(data[:fault.place].decode("utf-8", "surrogatepass")) if fault and fault.status == NO_PROGRAM else None
 
 
-def site_of(edge):
-    return sites.Site(f"{edge.kind}-type" if edge.type_only and edge.kind in TYPED else edge.kind, edge.value)
-
-
 def quoted(text):
     """A text as a JSON string."""
     if text.isascii() and text.isprintable() and '"' not in text and "\\" not in text:
@@ -220,10 +265,17 @@ def is_plain(specifier):
     return specifier.startswith("file:///") and bool(urls.PLAIN.fullmatch(specifier, len("file:///"))) and "/." not in specifier and "//" not in specifier[len("file:///"):]
 
 
-def line_of(entry):
+def places_of(outline):
+    """The places of sites in a text by their first bytes in its outline, or None if that is the text."""
+    if outline is None or outline.places is None:
+        return None
+    return {outline.places[n]: f"{outline.places[n + 1]}-{outline.places[n + 2]}" for n in range(0, len(outline.places), 3)}
+
+
+def line_of(entry, outline):
     """The line of an entry that is no package."""
     if entry.state == "module":
-        return f"{entry.specifier} module {entry.media_type} {entry.size}"
+        return f"{entry.specifier} module {entry.media_type} {outline.size if outline else entry.size}"
     if entry.state == "redirect":
         return f"{entry.specifier} redirect {entry.target_specifier}"
     return f"{entry.specifier} external" if entry.state == "external" else f"{entry.specifier} error {entry.fault}"
@@ -236,9 +288,11 @@ def is_better_proved():
 
 def has_only_to_be_linked():
     """Whether all that the library is made of is there."""
+    import shutil
+
     if kits.release() or not (shutil.which("cc") and shutil.which("objcopy")):
         return False
-    return library.is_proved() or bool(kits.kept(unproved.name_of_library()))
+    return library.is_proved() or bool(kits.kept(sums.name_of_library()))
 
 
 def found(asked):

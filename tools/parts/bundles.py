@@ -7,20 +7,20 @@ from bisect import bisect_right
 from urllib.parse import unquote, unquote_to_bytes
 
 from parts import urls
-from parts.words import plain
+from parts.words import NoGraph, plain
 
 MARK = b"\xef\xbb\xbf"
 # How many bytes on each side of a place are looked at to show its line.
 NEAR = 2_000
 
 
-class NoBundle(Exception):
+class NoBundle(NoGraph):
     """Why the input is no bundle, in one line."""
 
 
 def has_content(module):
-    """Whether a module of a bundle has its content, as text, as base64, or as the bytes of a file."""
-    return "bytes" in module or "text" in module or "base64" in module
+    """Whether a module of a bundle has its content, as text, as base64, or as the bytes of a file, which may be read later."""
+    return "bytes" in module or "read" in module or "text" in module or "base64" in module
 
 
 class Bundle:
@@ -49,6 +49,8 @@ class Bundle:
         module = self.modules.get(specifier, {})
         if "bytes" in module:
             return module["bytes"]
+        if "read" in module:
+            return module["read"]()
         if "text" in module:
             return module["text"].encode("utf-8", "surrogatepass")
         if "base64" in module:

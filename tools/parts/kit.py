@@ -1,14 +1,12 @@
 """The toolchain, the crates of the repository, and the folder where what was built is kept."""
-import importlib.machinery
-import importlib.util
-import json
+import functools
 import os
-import re
-import shutil
-import subprocess
 import sys
-import tempfile
+import time
 
+from parts.words import NoGraph
+
+# A start of ./joravelsu needs little of this module, so that what is large is imported where it is needed.
 ROOT = os.path.dirname(os.path.dirname(os.path.dirname(os.path.abspath(__file__))))
 
 
@@ -19,7 +17,11 @@ def kept_folder():
         os.makedirs(place, mode=0o700, exist_ok=True)
     except OSError:
         pass
-    return place if os.access(place, os.W_OK) else os.path.join(tempfile.gettempdir(), f"joravelsu-{os.getuid()}")
+    if os.access(place, os.W_OK):
+        return place
+    import tempfile
+
+    return os.path.join(tempfile.gettempdir(), f"joravelsu-{os.getuid()}")
 
 
 KEPT = kept_folder()
@@ -31,12 +33,14 @@ RELEASE = os.path.join(ROOT, "RELEASE")
 TRIED = ("rattle-kit-13f",)
 
 
-class NoKit(Exception):
+class NoKit(NoGraph):
     """The toolchain isn't there."""
 
 
 def kit():
     """The folder of the toolchain."""
+    import shutil
+
     command = shutil.which("rt")
     if not command:
         raise NoKit("the toolchain's command rt isn't on the path")
@@ -45,6 +49,8 @@ def kit():
 
 def version():
     """The name of the toolchain's version, as rattle-kit-13f."""
+    import subprocess
+
     ran = subprocess.run(["rt", "version"], capture_output=True, text=True, check=False)
     return (ran.stdout.split() or ["unknown"])[0]
 
@@ -91,6 +97,8 @@ def kept(name):
 
 def keep(made, name, ending, most=6):
     """Keeps a file under its name, and of all that have the ending the latest. The answer is where it is kept."""
+    import shutil
+
     os.makedirs(KEPT, mode=0o700, exist_ok=True)
     if os.stat(KEPT).st_uid != os.getuid():
         raise OSError(f"{KEPT} is another user's")
@@ -114,8 +122,12 @@ def seconds_in_times():
     return found
 
 
+@functools.lru_cache(None)
 def tool(name):
     """A tool of tools/ as a module of Python."""
+    import importlib.machinery
+    import importlib.util
+
     path = os.path.join(ROOT, "tools", name)
     loader = importlib.machinery.SourceFileLoader(name.replace("-", "_"), path)
     module = importlib.util.module_from_spec(importlib.util.spec_from_loader(loader.name, loader))
@@ -140,6 +152,8 @@ def is_newest(place):
 
 def release():
     """Of a release its version, whether its programs are proved, and the paths of these and of its library; else None."""
+    import json
+
     try:
         with open(RELEASE, encoding="utf-8") as file:
             found = json.load(file)
@@ -157,3 +171,24 @@ def proved_program(name="graph_tool"):
         return found["program" if name == "graph_tool" else "second"] if found.get("proved") else None
     place = os.path.join(ROOT, "crates", name, "out", name)
     return place if os.access(place, os.X_OK) and is_newest(place) else None
+
+
+def is_quiet():
+    """Whether nothing is to be said of compiling and of proofs."""
+    return bool(os.environ.get("JORAVELSU_QUIET")) or sys.stderr is None
+
+
+def say_unproved(told):
+    """That the program is the unproved one, once a day."""
+    place = os.path.join(KEPT, "unproved.told")
+    try:
+        if is_quiet() or time.time() - os.stat(place).st_mtime < 86_400:
+            return
+    except OSError:
+        pass
+    print(f"{told}: this is the unproved program; ./graph_tool prove proves and builds it, once, in about an hour (docs/TIMES.md)", file=sys.stderr, flush=True)
+    try:
+        with open(place, "w", encoding="utf-8"):
+            pass
+    except OSError:
+        pass

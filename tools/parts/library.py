@@ -1,20 +1,20 @@
 """The C library, for tools that ask it: the one that JORAVELSU_LIBRARY names, or one that is made of these sources, once."""
-import importlib.util
 import os
-import subprocess
-import tempfile
 
 from parts import kit as kits
-from parts import unproved
+from parts import sums
+from parts.words import NoGraph
 
-NAME = unproved.LIBRARY
+NAME = sums.LIBRARY
 MODULE = os.path.join(kits.ROOT, "examples", "embed", "python", "joravelsu.py")
 # How many libraries are kept.
 MOST_KEPT = 6
 
 
-class NoLibrary(Exception):
+class NoLibrary(NoGraph):
     """The library isn't there and can't be made; why, in a line."""
+
+    hint = "; --scan does without it"
 
 
 def is_proved():
@@ -23,7 +23,7 @@ def is_proved():
 
 
 def name_of():
-    return f"{NAME}-{unproved.sum_of(NAME)}.{'proved' if is_proved() else 'unproved'}.so"
+    return f"{NAME}-{sums.sum_of(NAME)}.{'proved' if is_proved() else 'unproved'}.so"
 
 
 def place():
@@ -39,6 +39,8 @@ def made():
     found = place()
     if found:
         return found
+    from parts import unproved
+
     try:
         with unproved.alone("libjoravelsu", "joravelsu"):
             return place() or built()
@@ -47,6 +49,9 @@ def made():
 
 
 def built():
+    import subprocess
+    import tempfile
+
     how = [] if is_proved() else ["--unproved"]
     with tempfile.TemporaryDirectory(prefix="joravelsu-") as room:
         words = [os.path.join(kits.ROOT, "tools", "build-library"), *how, room]
@@ -61,6 +66,8 @@ def built():
 
 def loaded(path):
     """The module of Python over the library at a path."""
+    import importlib.util
+
     before = os.environ.get("JORAVELSU_LIBRARY")
     os.environ["JORAVELSU_LIBRARY"] = path
     spec = importlib.util.spec_from_file_location("joravelsu", MODULE)

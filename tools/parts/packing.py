@@ -1,22 +1,31 @@
 """Bundles of folders: which files the graph of some roots has, and where each of their specifiers leads."""
 import collections
+import functools
 import json
 import os
 import posixpath
+import re
 import time
 
 from parts import import_maps, resolve, sites, tsconfig, urls
-from parts.words import MOST_BYTES, Wrong, plain, read_regular, say
+from parts.words import MOST_BYTES, Wrong, plain, say
 
 ENDINGS = sites.SOURCES + (".json", ".wasm")
 USUAL_LIMIT = 10_000
 # How many lines tell what was left out, and what leads nowhere.
 MOST_TOLD = 40
 LARGEST = 10
+# A path of plain characters in which no name begins with a dot.
+PLAIN_PATH = re.compile(r"[A-Za-z0-9_@$+~-][A-Za-z0-9_.@$+~-]*(?:/[A-Za-z0-9_@$+~-][A-Za-z0-9_.@$+~-]*)*")
 
 Lead = collections.namedtuple("Lead", "place url external reason note", defaults=(None, None, None, None, None))
 Lead.__doc__ = """Where a specifier leads. place: a file of the folder. url: what else it is mapped to. external: whether that is
 no part of the sources. reason: why it leads nowhere. note: what is told of it all the same."""
+
+
+@functools.lru_cache(sites.MOST_NAMES)
+def folder_of(place):
+    return posixpath.dirname(place)
 
 
 class Progress:
@@ -65,12 +74,14 @@ class Resolver:
         self.map, self.told = import_maps.of_deno(folder, asked.deno) if asked.deno else (None, None)
         self.ways = resolve.Ways(asked.conditions, asked.browser, asked.kind == "types")
         self.commonjs = getattr(asked, "commonjs", False)
+        # Whether a relative path to a file leads there, whatever the settings are.
+        self.is_direct = not (self.map or asked.external or asked.browser)
         self.known = {}
-        self.urls = {}
+        self.urls = {}  # of a folder and a specifier
 
     def url(self, place, specifier):
         """The URL that a specifier of a file is read as, NoUrl where it can't be; None for a bare one."""
-        key = posixpath.dirname(place), specifier
+        key = folder_of(place), specifier
         if key not in self.urls:
             try:
                 if specifier.startswith(("./", "../", "/")):
@@ -87,10 +98,25 @@ class Resolver:
         if self.commonjs and site.kind in sites.REQUIRES:
             ways = ways.of_require()
         reference = site.kind if site.kind.startswith("reference-") else None
-        key = posixpath.dirname(place), site.value, reference, ways.types_first, ways.requires
+        key = folder_of(place), site.value, reference, ways.types_first, ways.requires
         if key not in self.known:
-            self.known[key] = self.found(place, site.value, reference, ways)
+            self.known[key] = self.direct(key[0], site.value, ways) or self.found(place, site.value, reference, ways)
         return self.known[key]
+
+    def direct(self, folder, specifier, ways):
+        """The lead of a relative path of plain characters to a file that is there as written; None where more is to be looked at."""
+        if not specifier.startswith(("./", "../")) or not self.is_direct or ways.types_first:
+            return None
+        asked, rest = folder, specifier.removeprefix("./")
+        while rest.startswith("../") and folder:
+            folder, rest = folder_of(folder), rest[3:]
+        if not PLAIN_PATH.fullmatch(rest):
+            return None
+        place = f"{folder}/{rest}" if folder else rest
+        if not self.folder.is_file(place):
+            return None
+        self.urls[asked, specifier] = urls.of_file(place)
+        return Lead(place)
 
     def found(self, place, specifier, reference, ways):
         if len(specifier) > resolve.LONGEST:
@@ -242,9 +268,7 @@ class Packer:
         """Reads a file, where that wasn't done yet."""
         if place in self.contents:
             return
-        data = read_regular(self.folder.path(place), self.reader.most)
-        self.sizes[place] = len(data)
-        self.contents[place] = self.reader.content_of(place, data)
+        self.contents[place], self.sizes[place] = self.reader.load(place, self.folder.path(place))
 
     def take(self, places):
         """Packs these files and all to which the graph leads from them."""
@@ -306,12 +330,12 @@ class Packer:
             self.put(place, site, lead)
             if site.value.startswith("data:"):
                 yield from self.named_by_data(place, site.value)
-            follows = sites.is_followed(self.asked.kind, place, site)
-            if lead.reason and follows:
-                self.leads_nowhere(place, site, lead)
-            if lead.note and follows:
-                self.notes.setdefault(site.value, (place, lead))
-            yield from self.files_of(place, lead) if follows else ()
+            if sites.is_followed(self.asked.kind, place, site):
+                if lead.reason:
+                    self.leads_nowhere(place, site, lead)
+                if lead.note:
+                    self.notes.setdefault(site.value, (place, lead))
+                yield from self.files_of(place, lead)
 
     def lead(self, place, site):
         """Where a site leads: from a declaration first to declarations, but in a graph of code."""
@@ -350,7 +374,7 @@ class Packer:
             if at in self.of_data:
                 continue
             self.of_data.add(at)
-            for site in self.reader.of_data.get(at, ()):
+            for site in self.reader.sites_of_data(at):
                 if site.value.startswith("data:"):
                     waiting.append(site.value)
                 elif urls.URL.match(site.value):
@@ -363,7 +387,7 @@ class Packer:
     def put(self, place, site, lead):
         """What makes a specifier lead where it does: a row of the import map, a redirect, or that it is external."""
         value = site.value
-        if not (lead.place or lead.url or lead.external) or not is_utf8(value):
+        if not (lead.place or lead.url or lead.external) or not (value.isascii() or is_utf8(value)):
             return
         url = self.resolver.url(place, value)
         if isinstance(url, urls.NoUrl):
@@ -396,12 +420,13 @@ class Packer:
         """What stands in the import map: what most files mean, and for each folder, or file, that means something else that."""
         imports, scopes = {}, {}
         for key, meanings in sorted(self.maps.items()):
+            found = set(meanings.values())
+            if len(found) == 1:
+                if key not in found:
+                    imports[key] = found.pop()
+                continue
             counted = collections.Counter(meanings.values())
-            if set(counted) == {key}:
-                continue
             imports[key] = usual = max(counted, key=lambda url: (counted[url], url))
-            if len(counted) == 1:
-                continue
             by_folder = collections.defaultdict(dict)
             for place, url in meanings.items():
                 by_folder[posixpath.dirname(place)][place] = url
@@ -416,14 +441,14 @@ class Packer:
 
     # ---- the whole
 
+    @functools.cached_property
     def by_specifier(self):
-        """What the bundle has for each module, by its specifier."""
+        """What the bundle has for each module, by its specifier, once all is taken."""
         return {urls.of_file(place): self.contents[place] for place in sorted(self.taken, key=in_order)}
 
     def modules(self):
         """The modules of the bundle."""
-        modules = [{"specifier": specifier, **content} for specifier, content in self.by_specifier().items()]
-        taken = {module["specifier"] for module in modules}
+        modules, taken = [{"specifier": specifier, **content} for specifier, content in self.by_specifier.items()], self.by_specifier
         modules += [{"specifier": url, "redirect": to} for url, to in sorted(self.redirects.items()) if url not in taken]
         return modules + [{"specifier": url, "external": True} for url in sorted(self.external) if url not in taken]
 
@@ -533,8 +558,8 @@ def all_below(packer):
     waiting = [""]
     while waiting:
         at = waiting.pop(0)
-        for name, kind in sorted(packer.folder.names_in(at).items()):
-            place = f"{at}/{name}" if at else name
+        for name in sorted(packer.folder.names_in(at)):
+            place, kind = f"{at}/{name}" if at else name, packer.folder.kind_in(at, name)
             if name.startswith(".") or name == "node_modules":
                 continue
             if kind == "folder" and os.path.islink(packer.folder.path(place)):

@@ -7,6 +7,7 @@ import sys
 
 from parts import kit as kits
 from parts import sites, unproved
+from parts.words import NoGraph
 
 # The statuses of docs/REPORT.md at which a report was written.
 REPORT = 0
@@ -14,7 +15,7 @@ REASONS = {3: "a read failed", 4: "a write failed", 5: "memory ran out", -11: "i
            -6: "it stopped at a check", -4: "it stopped at a check", -9: "it was killed"}
 
 
-class NoProgram(Exception):
+class NoProgram(NoGraph):
     """There is no program, or it gave no report; why, in a line."""
 
 

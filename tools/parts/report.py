@@ -3,6 +3,8 @@ import collections
 import json
 import re
 
+from parts.words import NoGraph
+
 TEXT = r'"(?:[^"\\]|\\.)*"'
 EDGE = re.compile(rf"  (\S+) (\d+-\d+|-) ({TEXT}) (-|\?|{TEXT}) (?:-> (.+)|! (.+))")
 STATE = re.compile(rf"(.+) (module \S+ \d+|package \S+ {TEXT} \S.*|redirect \S.*|external|error \S+(?: .*)?)")
@@ -13,7 +15,7 @@ REFERRER = re.compile(rf"import (\S+) (\S+) (\d+-\d+|-) ({TEXT}) (-|\?|{TEXT}) (
 LATER = ("dynamic", "dynamic-source", "dynamic-defer", "import-defer", "worker", "require-resolve", "address")
 
 
-class NoReport(Exception):
+class NoReport(NoGraph):
     """Why the input is no report of a graph, in one line."""
 
 

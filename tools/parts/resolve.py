@@ -79,6 +79,7 @@ class Folder:
         self.real_root = os.path.realpath(root)
         self.links_out = links_out
         self.names = {}
+        self.folders = set()  # those that were seen to be folders of the folder
         self.packages = {}
         self.tables = {}
 
@@ -86,39 +87,50 @@ class Folder:
         return os.path.join("" if self.root == "." else self.root, place) or "."
 
     def names_in(self, place):
-        """The names that stand in a folder, each with what it is; a link counts as what it leads to."""
+        """The names that stand in a folder, each with what it is, or None of a link, until what that leads to is asked for."""
         if place not in self.names:
             try:
                 with os.scandir(self.path(place)) as items:
-                    self.names[place] = {item.name: self.kind_of(item) for item in items}
+                    self.names[place] = {item.name: kind_of(item) for item in items}
             except PermissionError as error:
                 raise BadFile(f"{plain(self.path(place))}: {error.strerror}") from error
             except (OSError, ValueError):  # it isn't there, its name is too long, or none
                 self.names[place] = {}
         return self.names[place]
 
-    def kind_of(self, item):
-        """file, folder, other, or of a link that isn't taken: out, nothing, loop."""
+    def kind_in(self, place, name):
+        """What a name in a folder is, or None: file, folder, other, or of a link that isn't taken: out, nothing, loop."""
+        names = self.names_in(place)
+        kind = names.get(name)
+        if kind is None and name in names:
+            kind = names[name] = self.kind_of_link(self.path(f"{place}/{name}" if place else name))
+        return kind
+
+    def kind_of_link(self, path):
+        """What a link leads to, which it counts as."""
         try:
-            if item.is_symlink():
-                real = os.path.realpath(item.path)
-                if not os.path.lexists(real):
-                    return "nothing"
-                if os.path.islink(real):
-                    return "loop"
-                if not self.links_out and not is_below(real, self.real_root):
-                    return "out"
-            return "folder" if item.is_dir() else "file" if item.is_file() else "other"
+            real = os.path.realpath(path)
+            if not os.path.lexists(real):
+                return "nothing"
+            if os.path.islink(real):
+                return "loop"
+            if not self.links_out and not is_below(real, self.real_root):
+                return "out"
+            return "folder" if os.path.isdir(path) else "file" if os.path.isfile(path) else "other"
         except OSError:
             return "loop"
 
     def what(self, place):
         """What stands at a place, or None: each folder on the way is one of the folder."""
+        front, _, last = place.rpartition("/")
+        if front in self.folders and last not in ("", ".", ".."):
+            return self.kind_in(front, last)
         kind, at = "folder", ""
         for name in place.split("/") if place else ():
             if kind != "folder" or name in ("", ".", ".."):
                 return kind if kind in NO_FILE else None
-            kind = self.names_in(at).get(name)
+            kind = self.kind_in(at, name)
+            self.folders.add(at)
             at = f"{at}/{name}" if at else name
         return kind
 
@@ -315,6 +327,14 @@ class Folder:
         place = self.scope_of(folder) if ways.browser else None
         found = self.browser_files(place).get(name, name) if place is not None else name
         return name if found is None else found
+
+
+def kind_of(item):
+    """What stands in a folder: file, folder, other, or None of a link."""
+    try:
+        return None if item.is_symlink() else "folder" if item.is_dir() else "file" if item.is_file() else "other"
+    except OSError:
+        return "other"
 
 
 class Patterns:

@@ -1,13 +1,11 @@
 """Where the texts of files name other modules, as the program reads them: many files in one call."""
-import base64
 import collections
 import functools
 import json
 import re
 
-from parts import report
 from parts.resolve import DECLARATIONS
-from parts.words import MOST_BYTES, Wrong, plain
+from parts.words import MOST_BYTES, Wrong, plain, read_regular
 
 SOURCES = (".ts", ".mts", ".cts", ".tsx", ".js", ".mjs", ".cjs", ".jsx")
 TYPESCRIPT = (".ts", ".mts", ".cts", ".tsx")
@@ -55,12 +53,16 @@ def ending_of(place):
     return None
 
 
+@functools.lru_cache(None)
+def is_type_only(kind):
+    return kind.endswith("-type") or kind.startswith("reference-") or kind == "type-import"
+
+
 def is_followed(kind, place, site):
     """Whether a graph of a kind follows an edge of a module, as docs/RESOLUTION.md has it."""
-    is_type_only = site.kind.endswith("-type") or site.kind.startswith("reference-") or site.kind == "type-import"
     if kind == "types":
         return is_typescript(place) and site.kind not in UNTYPED
-    return site.kind not in PLACES and not (kind == "code" and is_type_only)
+    return site.kind not in PLACES and not (kind == "code" and is_type_only(site.kind))
 
 
 def content_of(place, data):
@@ -70,6 +72,8 @@ def content_of(place, data):
             return {"text": data.decode("utf-8")}
     except UnicodeDecodeError:
         pass
+    import base64
+
     return {"base64": base64.b64encode(data).decode("ascii")}
 
 
@@ -88,6 +92,15 @@ class Reader:
     reads_ahead = True
     most = MOST_BYTES
     content_of = staticmethod(content_of)
+
+    def load(self, place, path):
+        """What the bundle has for a file, and how many bytes that has."""
+        data = read_regular(path, self.most)
+        return self.content_of(place, data), len(data)
+
+    def sites_of_data(self, url):
+        """The sites of what a data: URL holds that some file names."""
+        return self.of_data.get(url, ())
 
     def read(self, contents):
         """The sites of each file, by place, of a dictionary from places to what the bundle has for them."""
@@ -143,6 +156,8 @@ class Reader:
 
 def sites_of(told):
     """The sites of each entry of a report that has edges."""
+    from parts import report
+
     found, at = {}, None
     for line in told.decode("utf-8").split("\n"):
         edge = report.EDGE.fullmatch(line) if line.startswith("  ") else None

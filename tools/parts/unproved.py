@@ -8,7 +8,6 @@ links the prover is a command that does nothing.
 """
 import contextlib
 import fcntl
-import hashlib
 import os
 import re
 import shutil
@@ -20,10 +19,9 @@ import threading
 import time
 
 from parts import kit as kits
+from parts.sums import LIBRARY, PROGRAM, SECOND, name_of_library, name_of_programs, sum_of
+from parts.words import heed_signals
 
-PROGRAM = "graph_tool"
-# The second program: compiled with the first, it runs where the program is called by its name.
-SECOND = "joravelsu_tool"
 # How many compiled programs are kept, those of tests among them.
 MOST_KEPT = 80
 # Before the first run the compiler is asked for something small; the program itself has megabytes.
@@ -52,24 +50,6 @@ class Unable(Failed):
 FAULT = re.compile(r"^\S+\.rt:\d+:\d+: error", re.M)
 
 
-def is_quiet():
-    """Whether nothing is to be said of compiling and of proofs."""
-    return bool(os.environ.get("JORAVELSU_QUIET")) or sys.stderr is None
-
-
-def say_unproved(told):
-    """That the program is the unproved one, once a day."""
-    place = os.path.join(kits.KEPT, "unproved.told")
-    try:
-        if is_quiet() or time.time() - os.stat(place).st_mtime < 86_400:
-            return
-    except OSError:
-        pass
-    print(f"{told}: this is the unproved program; ./graph_tool prove proves and builds it, once, in about an hour (docs/TIMES.md)", file=sys.stderr, flush=True)
-    with contextlib.suppress(OSError), open(place, "w", encoding="utf-8"):
-        pass
-
-
 class Clock:
     """Tells how long something takes: on a terminal each second, elsewhere in a line each minute."""
 
@@ -83,7 +63,7 @@ class Clock:
     def __enter__(self):
         self.start = time.monotonic()
         self.thread = None
-        if is_quiet():
+        if kits.is_quiet():
             return self
         if not self.stream.isatty():
             print(self.what, file=self.stream, flush=True)
@@ -120,49 +100,6 @@ def alone(name, told):
             with Clock(f"{told}: another call compiles {name}; this one waits for it"):
                 fcntl.flock(file, fcntl.LOCK_EX)
         yield
-
-
-def times_of(crate):
-    """What the times and sizes of all that the compiled crate is made of are, as a checksum: quick to make."""
-    listed = kits.listed_crates()
-    files = [os.path.join(kits.kit(), "KIT-ID"), os.path.join(kits.ROOT, "crates.txt"), os.path.abspath(__file__)]
-    for name in sorted(kits.crates_below(crate, listed)):
-        files += kits.sources_of(name)
-    rows = [(path, it.st_size, it.st_mtime_ns, it.st_ctime_ns, it.st_ino) for path, it in ((path, os.stat(path)) for path in files)]
-    return hashlib.sha256(repr((crate, rows)).encode()).hexdigest()
-
-
-def sum_of(crate):
-    """A checksum of all that the compiled crate is made of; it is made again only where a time or a size is another."""
-    times, place = times_of(crate), os.path.join(kits.KEPT, f"{crate}.sum")
-    try:
-        with open(place, encoding="ascii") as file:
-            known, found = file.read().split()
-        if known == times and os.stat(place).st_uid == os.getuid():
-            return found
-    except (OSError, ValueError):
-        pass
-    found = sum_anew(crate)
-    with contextlib.suppress(OSError):
-        os.makedirs(kits.KEPT, mode=0o700, exist_ok=True)
-        with open(f"{place}.{os.getpid()}", "w", encoding="ascii") as file:
-            file.write(f"{times} {found}")
-        os.replace(f"{place}.{os.getpid()}", place)
-    return found
-
-
-def sum_anew(crate):
-    found = hashlib.sha256()
-    listed = kits.listed_crates()
-    with open(os.path.join(kits.kit(), "KIT-ID"), "rb") as file:
-        found.update(file.read())
-    found.update(repr((HOW, COMPILER, CALLS if crate == LIBRARY else "")).encode())
-    for name in sorted(kits.crates_below(crate, listed)):
-        found.update(repr((name, listed[name])).encode())
-        for path in kits.sources_of(name):
-            with open(path, "rb") as file:
-                found.update(repr((os.path.relpath(path, kits.ROOT), file.read())).encode())
-    return found.hexdigest()[:40]
 
 
 def link_all(source, target):
@@ -307,7 +244,6 @@ def begin(told):
 
 # The calls of the C library, as a program calls each once, so that the toolchain compiles it: the program makes them where
 # it has more words than a system gives.
-LIBRARY = "graph_c"
 CALLS = """
 fn call_each(rt: &HostRuntime) {
     let _ = joravelsu_version();
@@ -418,14 +354,6 @@ def with_calls_visible(module, kit, room):
     return made
 
 
-def name_of_programs():
-    return f"{PROGRAM}-{sum_of(PROGRAM)[:20]}-{sum_of(SECOND)[:20]}.unproved"
-
-
-def name_of_library():
-    return f"{LIBRARY}-{sum_of(LIBRARY)}.unproved.o"
-
-
 def compile_both(told):
     """The program and the library, compiled in one go and kept."""
     begin(told)
@@ -455,19 +383,6 @@ def made(name, told):
         return used(name)
 
 
-def stop(_number, _frame):
-    """A signal ends what was started, and then this program."""
-    raise KeyboardInterrupt
-
-
-def heed_signals():
-    """Has a signal end what was started, but for one that is ignored, as nohup has it."""
-    if threading.current_thread() is threading.main_thread():
-        for number in (signal.SIGINT, signal.SIGTERM, signal.SIGHUP):
-            if signal.getsignal(number) != signal.SIG_IGN:
-                signal.signal(number, stop)
-
-
 def main():
     heed_signals()
     try:
@@ -475,7 +390,7 @@ def main():
             print(library())
             return 0
         print((kits.release() or {}).get("program") or program("graph_tool"))
-        say_unproved("graph_tool")
+        kits.say_unproved("graph_tool")
     except (Failed, kits.NoKit, OSError) as failed:
         print(f"graph_tool: {failed}", file=sys.stderr)
         return 70

@@ -1,7 +1,6 @@
 """URLs, by the rules of the URL Standard; hosts that are not ASCII pass as they are."""
-import ipaddress
+import functools
 import re
-from urllib.parse import quote, unquote
 
 PORTS = {"ftp": "21", "file": None, "http": "80", "https": "443", "ws": "80", "wss": "443"}
 KEPT = "!$&'()*+,/:;=@[]|%\\"
@@ -12,6 +11,21 @@ URL = re.compile(r"[A-Za-z][A-Za-z0-9+.-]*:")
 BLANKS = "".join(map(chr, range(0x21)))
 # Characters that a URL has as they are, and that mean nothing in it but / and the dots.
 PLAIN = re.compile(r"[A-Za-z0-9_./@$+~-]*")
+# Of so many paths it is known which URLs they have.
+MOST_PATHS = 100_000
+
+
+def quote(text, safe):
+    """A text in which characters that are neither letters, digits nor one of _.-~ and these are percent-encoded."""
+    from urllib import parse  # most paths are plain
+
+    return parse.quote(text, safe=safe)
+
+
+def unquote(text, errors="replace"):
+    from urllib import parse
+
+    return parse.unquote(text, errors=errors)
 
 
 class NoUrl(Exception):
@@ -47,6 +61,8 @@ def number_in(part):
 
 def special_host(host):
     """The host of a URL of a special scheme as it is written: a name in lower case, or an address."""
+    import ipaddress
+
     if host.startswith("["):
         return f"[{ipaddress.IPv6Address(host[1:-1])}]"
     host = unquote(host).lower()
@@ -148,6 +164,7 @@ def joined_by_the_rules(base, reference):
     return url_of("file://" + path + rest)
 
 
+@functools.lru_cache(MOST_PATHS)
 def of_file(path):
     """The URL of a path from the folder that is packed."""
     return "file:///" + (path if PLAIN.fullmatch(path) else quote(path, safe=KEPT_OF_FILE))

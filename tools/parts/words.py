@@ -13,6 +13,12 @@ class Wrong(Exception):
     """What is wrong, in one line."""
 
 
+class NoGraph(Exception):
+    """Why there is no graph, or nothing that says one; in one line."""
+
+    hint = ""  # what to do then
+
+
 class Version(argparse.Action):
     """Prints the version of a command."""
 
@@ -146,6 +152,22 @@ def write(data, path=None):
         raise Wrong("standard output was closed") from error
     except OSError as error:
         raise Wrong(f"{path or 'standard output'}: {error.strerror}") from error
+
+
+def stop(_number, _frame):
+    """A signal ends what was started, and then this program."""
+    raise KeyboardInterrupt
+
+
+def heed_signals():
+    """Has a signal end what was started, but for one that is ignored, as nohup has it."""
+    import signal
+    import threading
+
+    if threading.current_thread() is threading.main_thread():
+        for number in (signal.SIGINT, signal.SIGTERM, signal.SIGHUP):
+            if signal.getsignal(number) != signal.SIG_IGN:
+                signal.signal(number, stop)
 
 
 def run(name, main, wrong=1):

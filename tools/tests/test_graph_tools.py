@@ -253,7 +253,7 @@ class Records(unittest.TestCase):
         self.read({"a.ts": {"text": "1"}})
         kept = records.Records(self.program)
         self.assertEqual(sites.Reader(self.program, kept, True).read({"a.ts": {"text": "1"}, "b.ts": {"text": "2"}}), dict.fromkeys(("a.ts", "b.ts"), [sites.Site("import", "./a")]))
-        kept.rows[kept.key("a.ts", {"text": "1"})] = [["import", "./b"]]
+        kept.of_key(kept.key("a.ts", {"text": "1"}))[1:] = [["import", "./b"]]
         with self.assertRaisesRegex(words.Wrong, "^a.ts: what is cached isn't what the program says$"):
             sites.Reader(self.program, kept, True).read({"a.ts": {"text": "1"}})
 

@@ -11,7 +11,7 @@ from unittest import mock
 TOOLS = os.path.dirname(os.path.dirname(os.path.abspath(__file__)))
 ROOT = os.path.dirname(TOOLS)
 sys.path.insert(0, TOOLS)
-from parts import builder, kit, library, packing, sites, words  # noqa: E402
+from parts import builder, kit, library, outlines, packing, records, sites, words  # noqa: E402
 
 JORAVELSU = os.path.join(ROOT, "joravelsu")
 PROJECTS = os.path.join(ROOT, "examples", "projects")
@@ -36,8 +36,12 @@ import "./broken.ts"; import "./bytes.js"; import "./mark.ts"; import "./UPPER.T
 }
 
 
-def ran(*asked, at=ROOT):
-    done = subprocess.run([JORAVELSU, *asked], capture_output=True, cwd=at, env={**os.environ, "JORAVELSU_QUIET": "1"}, check=False)
+# What makes a text of JavaScript or TypeScript so long that it has an outline.
+LONG = f"\n/*{'é' * outlines.SHORT}*/"
+
+
+def ran(*asked, at=ROOT, **variables):
+    done = subprocess.run([JORAVELSU, *asked], capture_output=True, cwd=at, env={**os.environ, "JORAVELSU_QUIET": "1", **variables}, check=False)
     return done.returncode, done.stdout, done.stderr
 
 
@@ -73,10 +77,7 @@ class Same(Loader):
                 self.same(*asked, "--no-cache", os.path.join("projects", root))
 
     def test_of_all_kinds(self):
-        self.put(FILES)
-        for name, data in (("m.wasm", b"\0asm\x01\0\0\0\x02\x0c\x01\x06./a.ts\x01f\0\0"), ("bytes.js", b"import './a'; '\xff'")):
-            with open(os.path.join(self.room, "src", name), "wb") as file:
-                file.write(data)
+        self.put_all(FILES)
         for asked in ([], ["--kind", "code", "--external", "https://*"], ["--kind", "types"], ["--kind", "all", "--also", "*", "--browser", "--deno", "none"]):
             status, out, _ = self.same("graph", "--no-cache", *asked, "src/main.ts")
             self.assertEqual(status, 0)
@@ -87,6 +88,38 @@ class Same(Loader):
         self.assertEqual([broken[key] for key in ("fault", "byte", "line", "column", "message")], ["Parse", 21, 1, 22, "this bracket has no partner"])
         for name in ("main.ts", "m.wasm", "bytes.js", "broken.ts", "é.js"):
             self.same("imports", f"src/{name}")
+
+    def put_all(self, files):
+        self.put(files)
+        for name, data in (("m.wasm", b"\0asm\x01\0\0\0\x02\x0c\x01\x06./a.ts\x01f\0\0"), ("bytes.js", b"import './a'; '\xff'")):
+            with open(os.path.join(self.room, "src", name), "wb") as file:
+                file.write(data)
+
+    def test_of_outlines(self):
+        self.put_all({path: text + LONG if isinstance(text, str) and path.endswith(("s", "S", "css")) else text for path, text in FILES.items()})
+        for asked in ([], ["--kind", "code", "--external", "https://*"], ["--kind", "types"], ["--also", "*", "--deno", "none"]):
+            by_program = ran("graph", "--loader", "program", "--no-cache", *asked, "src/main.ts", at=self.room)
+            self.assertEqual(by_program[0], 0)
+            with mock.patch.dict(os.environ, {"XDG_CACHE_HOME": os.path.join(self.room, "cache"), "JORAVELSU_LIBRARY": self.library}):
+                for more in ([], [], ["--check-cache"], ["--no-cache"]):
+                    self.assertEqual(ran("graph", "--loader", "library", *more, *asked, "src/main.ts", at=self.room), by_program, (asked, more))
+        self.same("check", "--json", "--no-cache", "src/main.ts")
+        self.same("imports", "src/main.ts")
+
+    def test_each_kind_of_site_has_an_outline(self):
+        made = builder.Library(self.library)
+        for place, text in (("a.d.ts", '/// <reference path="é"/>\n/// <reference types="b"/>\nimport type a from "\\"\\n"; export type { b } from "c"; import type d = require("e");'),
+                            ("a.js", """import a from 'b'; export * from 'c'; import d from 'e' with { type: "json" }; import source f from 'g'; import defer * as h from 'i';
+                                      import('j'); import.source('k'); import.defer('l'); import('m', { with: { type: 'json' } }); import('n', o); import '\\ud800';"""),
+                            ("a.ts", "import a = require('b'); import a2 = require('c'); export {}"), ("a.js", ""), ("a.mjs", "("), ("a.cjs", "'"), ("a.json", ""), ("a.css", "a {}")):
+            data = (text + LONG).encode()
+            found, outline = made.read(place, data)
+            self.assertTrue(outline is not None and len(outline.data) < outlines.SHORT, (place, text))
+            self.assertEqual(outlines.of_row(outlines.row_of("", outline)), outline)
+            self.assertEqual(outline.sites, list(found))
+        self.assertEqual(made.read("a.js", b"\xff")[1], outlines.of_no_utf8())
+        self.assertIsNone(made.read("a.wasm", b"")[1])
+        self.assertEqual(made.read("a.js", b"\xef\xbb\xbfa")[1], outlines.Outline(b"\xef\xbb\xbfa", 1, None, []))
 
     def test_what_ends_it(self):
         self.put({"a.ts": "", "deno.json": {"imports": {"a": 1}}})
@@ -144,25 +177,59 @@ class Library(Loader):
     def test_files_are_read_once_and_only_if_they_are_reached(self):
         self.put({"a.ts": 'import "./b"; import "./b.ts"; // import "./c"', "b.ts": 'import "./a"', "c.ts": ""})
         read, real = [], words.read_regular
-        with mock.patch.object(packing, "read_regular", lambda path, most: (read.append(os.path.basename(path)), real(path, most))[1]):
+        with mock.patch.object(sites, "read_regular", lambda path, most: (read.append(os.path.basename(path)), real(path, most))[1]):
             asked = kit.tool("pack").options().parse_args([self.room, "a.ts"])
             packer, roots = packing.packed(asked, builder.Reader(builder.Library(self.library)), sys.stderr)
         self.assertEqual((read, roots), (["a.ts", "b.ts"], ["file:///a.ts"]))
 
     def test_the_cache_is_by_content(self):
         self.put({"a.ts": 'import "./b"', "b.ts": "", "c.ts": ""})
-        made, asked = builder.Library(self.library), []
-        with mock.patch.object(made, "sites_of", lambda place, data: (asked.append(place), builder.Library.sites_of(made, place, data))[1]):
-            from parts import records
-            with mock.patch.object(kit, "KEPT", os.path.join(self.room, "kept")):
-                for text, wanted in ((None, ["a.ts", "b.ts"]), (None, []), ('import "./c"', ["a.ts"])):
-                    if text:
-                        self.put({"a.ts": text})
-                    kept = records.Records(made)
-                    packing.packed(kit.tool("pack").options().parse_args([self.room, "a.ts"]), builder.Reader(made, kept), sys.stderr)
-                    kept.save()
-                    self.assertEqual(sorted(asked), wanted)
-                    asked.clear()
+        for text, wanted in ((None, ["a.ts", "b.ts"]), (None, []), ('import "./c"', ["a.ts"])):
+            if text:
+                self.put({"a.ts": text})
+            self.assertEqual(self.packed()[0], wanted)
+
+    def test_a_file_of_the_same_time_and_size_is_not_read(self):
+        self.put({"a.ts": 'import "./b"', "b.ts": LONG, "c.ts": ""})
+        with mock.patch.object(records, "SHORTLY", 0):
+            self.assertEqual(self.packed(), (["a.ts", "b.ts"], ["a.ts", "b.ts"]))
+            self.assertEqual(self.packed(), ([], []))
+            self.put({"a.ts": 'import "./c"'})
+            self.assertEqual(self.packed(), (["a.ts", "c.ts"], ["a.ts", "c.ts"]))
+            self.put({"a.ts": 'import "./b"'})
+            self.assertEqual(self.packed(), ([], ["a.ts"]))
+        with mock.patch.object(records, "SHORTLY", 10 ** 12):
+            self.put({"c.ts": 'import "./b"'})
+            self.assertEqual([self.packed("c.ts")[1] for _ in range(2)], [["c.ts"], ["c.ts"]])
+
+    def test_what_is_kept_is_compared(self):
+        self.put({"a.ts": 'import "./b"', "b.ts": "", "c.ts": ""})
+        with mock.patch.object(records, "SHORTLY", 0):
+            self.packed()
+            self.assertEqual(self.packed(compares=True), (["a.ts", "b.ts"], ["a.ts", "b.ts"]))
+
+            def changed(kept):
+                kept.rows[0][4] = ["import", "./c"]
+
+            def misplaced(kept):
+                kept.files["b.ts"][0] = 0
+
+            for change, place in ((changed, "a.ts"), (misplaced, "b.ts")):
+                with self.assertRaisesRegex(words.Wrong, f"^{place}: what is cached isn't what the library says$"):
+                    self.packed(compares=True, change=change)
+
+    def packed(self, root="a.ts", compares=False, change=None):
+        """The files whose texts the library was asked for, and those that were read, where records are kept."""
+        made, asked, read, real = builder.Library(self.library), [], [], words.read_regular
+        with mock.patch.object(kit, "KEPT", os.path.join(self.room, "kept")), \
+                mock.patch.object(made, "read", lambda place, data: (asked.append(place), builder.Library.read(made, place, data))[1]), \
+                mock.patch.object(sites, "read_regular", lambda path, most: (read.append(os.path.basename(path)), real(path, most))[1]):
+            kept = records.Records(made)
+            if change:
+                change(kept)
+            packing.packed(kit.tool("pack").options().parse_args([self.room, root]), builder.Reader(made, kept, compares), sys.stderr)
+            kept.save()
+        return sorted(asked), sorted(read)
 
     def test_which_texts_are_programs(self):
         made = builder.Library(self.library)
