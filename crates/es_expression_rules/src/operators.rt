@@ -9,8 +9,8 @@ use crate::levels::{Arithmetic, BehindTypes, Bitwise, Comparing, LevelBehind, Re
 use crate::operand::Operand;
 use es_grammar::{Context, NodeKind, Row, TypeRow};
 use es_rules::{
-    Alt, Both, ByPredicate, Choose, Cursor, Done, Grammar, Greedy, IsOfKinds, LeafKind, Make, OfRow, Opt,
-    Pick, Punct, ReadsBehind, ReadsProduction, ReadsRhs, Rows, Tok, When, Where, Wrap,
+    Alt, Both, ByPredicate, Choose, Cursor, Done, Grammar, Greedy, IsOfKinds, LeafKind, Make,
+    OfRow, Opt, Pick, Punct, ReadsBehind, ReadsProduction, ReadsRhs, Rows, Tok, When, Where, Wrap,
 };
 use es_shared_rules::predicates::Lookahead::{Has, Is, Other};
 use es_shared_rules::predicates::{Kinds, Lookahead, Predicate};
@@ -164,8 +164,7 @@ impl<N: ReadsRhs<Row> + Copy> ReadsProduction<Row> for TypeAssertion<N> {
 pub struct AssertedBefore<N, A>(pub Lang, pub Context, pub N, pub A);
 
 impl<N: ReadsRhs<Row> + Copy, A: ReadsProduction<Row> + Copy> ReadsProduction<Row>
-    for AssertedBefore<N, A>
-{
+    for AssertedBefore<N, A> {
     ghost rule = { λ s. asserted_before s.0 s.1 (N.form s.2) (A.rule s.3) };
 
     #[inline(always)]
@@ -175,12 +174,7 @@ impl<N: ReadsRhs<Row> + Copy, A: ReadsProduction<Row> + Copy> ReadsProduction<Ro
         cursor: &mut Cursor,
     ) -> Result<usize, SyntaxError> {
         if self.0.has_assertions() {
-            Choose(
-                Is(TokenKind::Less),
-                TypeAssertion(self.1, self.2),
-                self.3,
-            )
-            .read(grammar, cursor)
+            Choose(Is(TokenKind::Less), TypeAssertion(self.1, self.2), self.3).read(grammar, cursor)
         } else {
             self.3.read(grammar, cursor)
         }

@@ -22,12 +22,7 @@ pub fn line_of(alloc: Global, text: &str) -> Result<String, AllocError> {
     }
 }
 
-fn program_line(
-    alloc: Global,
-    lang: Lang,
-    mode: Mode,
-    text: &str,
-) -> Result<String, AllocError> {
+fn program_line(alloc: Global, lang: Lang, mode: Mode, text: &str) -> Result<String, AllocError> {
     match lex_tokens(alloc, text) {
         Ok(lexed) => tokens_line(alloc, lang, mode, lexed.tokens.as_slice()),
         Err(LexError::Lexical(error)) => format!(in alloc; "{error}"),
