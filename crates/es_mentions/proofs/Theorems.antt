@@ -8,7 +8,7 @@ use Rattle.std.proofs.lemmas.Bool.Decides.{nat_tests}
 use Rattle.es_token.specs.declared.token.Token.{Token}
 use Rattle.es_grammar.specs.declared.cst.tree.Cst.{Cst}
 use Rattle.es_scopes.specs.declared.steps.Mark.TheVariants as mark
-use Rattle.es_scopes.specs.Marks.{Marks, marks}
+use Rattle.es_scopes.specs.Marks.{Marks, body_marks}
 use Rattle.es_scopes.specs.Numbers.{Scope, Named, named_in, closed, declares, declaring, number_of, numbered, spelled, ids_in}
 use Rattle.es_mentions.specs.declared.listed.Reason.{Reason}
 use Rattle.es_mentions.specs.declared.listed.Reason.TheVariants as reason
@@ -264,7 +264,7 @@ module _ (x : List ℕ) (ts : List Token) (allowed : List (List ℕ)) (strict : 
   quiet_nothing quiet =
       let no_name : names x ts allowed strict tree ≡ [] =
       none_names x ts allowed script (names_left x ts strict tree) (names_left x ts strict tree)
-      (numbers [] 1 (living (events x ts strict tree) (marks ts tree)) (all_empty has_number)
+      (numbers [] 1 (living (events x ts strict tree) (body_marks ts tree)) (all_empty has_number)
       (omega arith)) quiet.of_names in
       let no_node : others x ts strict tree ≡ [] =
       twice listed_in (event_of x ts script strict) (nodes (is_closed x ts) tree)

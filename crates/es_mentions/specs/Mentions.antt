@@ -7,7 +7,7 @@ use Rattle.es_grammar.specs.declared.cst.tree.Cst.{Cst}
 use Rattle.es_walk.specs.Looks.{node_of}
 use Rattle.es_scopes.specs.declared.steps.Mark.{Mark}
 use Rattle.es_scopes.specs.declared.steps.Mark.TheVariants as mark
-use Rattle.es_scopes.specs.Marks.{marks}
+use Rattle.es_scopes.specs.Marks.{body_marks}
 use Rattle.es_scopes.specs.Numbers.{ids_in}
 use Rattle.es_mentions.specs.declared.listed.Reason.TheVariants as reason
 use Rattle.es_mentions.specs.declared.listed.Mention.{Mention}
@@ -83,7 +83,7 @@ module _ (x : List ℕ) (ts : List Token) where
 
     module _ (strict : Bool) where
       unfoldable pub names : Cst → List Mention
-      names tree = names_in (is_script_tree tree) (events strict tree) (marks ts tree)
+      names tree = names_in (is_script_tree tree) (events strict tree) (body_marks ts tree)
 
       -- all of them
       unfoldable pub mentions : Cst → List Mention

@@ -2,7 +2,7 @@
 use Rattle.std.specs.Prelude.{◌≡◌, ℕ, Bool, true, List, [], None, Contains, All, ◌⊎◌}
 use Rattle.es_token.specs.declared.token.Token.{Token}
 use Rattle.es_grammar.specs.declared.cst.tree.Cst.{Cst}
-use Rattle.es_scopes.specs.Marks.{marks}
+use Rattle.es_scopes.specs.Marks.{body_marks}
 use Rattle.es_scopes.specs.Numbers.{Scope, Named, named_in, declares, spelled}
 use Rattle.es_mentions.specs.Nodes.{nodes}
 use Rattle.es_mentions.specs.Words.{is_allowed}
@@ -18,7 +18,7 @@ module _ (x : List ℕ) (ts : List Token) where
 
   -- the names of the program that are left at run time, with the scopes around them
   abbrev pub names_left : Bool → Cst → List Named
-  names_left strict tree = named_in [] 1 (living (events x ts strict tree) (marks ts tree))
+  names_left strict tree = named_in [] 1 (living (events x ts strict tree) (body_marks ts tree))
 
   module _ (allowed : List (List ℕ)) (strict : Bool) where
     -- each name that is left is declared or allowed, and no node that is left is listed

@@ -3,14 +3,14 @@
 ghost use Rattle.std.specs.Prelude.{◌≡◌, ◌++◌, filter_map, option_to_list, IfOk, OnOk};
 ghost use Rattle.es_lexer.specs.Reads.{ReadsTokens};
 ghost use Rattle.es_syntax.specs.Trees.{first_tree, trees};
-ghost use Rattle.es_scopes.specs.Marks.{marks};
+ghost use Rattle.es_scopes.specs.Marks.{body_marks};
 ghost use Rattle.es_mentions.specs.Mentions as spec;
 
 use crate::gone::{gone_tokens, living};
 use crate::listed::{Event, Mention, Reason};
 use crate::source::Source;
 use base::Items;
-use es_scopes::program_marks;
+use es_scopes::body_marks;
 use es_syntax::Siblings;
 use es_variables::scope_numbers::scope_ids;
 use std::alloc::{AllocError, Global};
@@ -62,9 +62,9 @@ pub fn free_names(
     events: &[Event],
 ) -> Result<Items<Mention>, AllocError>
     requires { ReadsTokens source.now.text.now source.now.tokens.now }
-    ensures { IfOk result (λ found. found ≡ spec.names_in source.now.text.now source.now.tokens.now source.now.allowed.now source.now.script events.now (marks source.now.tokens.now (first_tree (trees row.now.entries.now)))) }
+    ensures { IfOk result (λ found. found ≡ spec.names_in source.now.text.now source.now.tokens.now source.now.allowed.now source.now.script events.now (body_marks source.now.tokens.now (first_tree (trees row.now.entries.now)))) }
 {
-    let marks = program_marks(alloc, source.tokens, row)?;
+    let marks = body_marks(alloc, source.tokens, row)?;
     let bits = gone_tokens(alloc, events)?;
     let left = living(alloc, bits.as_slice(), marks.as_slice())?;
     let ids = scope_ids(alloc, source.text, source.tokens, left.as_slice())?;
