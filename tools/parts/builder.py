@@ -6,7 +6,7 @@ import sys
 
 from parts import kit as kits
 from parts import library, outlines, sites, sums, urls
-from parts.words import MOST_BYTES, Wrong, plain, read_regular
+from parts.words import MOST_BYTES, Wrong, plain
 
 # The media types by which texts are read, by the ending of the name.
 MEDIA_TYPES = {".d.ts": 0, ".d.mts": 1, ".d.cts": 2, ".ts": 3, ".mts": 4, ".cts": 5, ".tsx": 6, ".js": 7, ".mjs": 8, ".cjs": 9, ".jsx": 10}
@@ -32,26 +32,22 @@ class Reader(sites.Reader):
         return {"bytes": data}
 
     def load(self, place, path):
-        row = self.records.of_file(place, path) if self.records else None
-        if row is None or self.compares:
-            self.kept[place] = row
-            return super().load(place, path)
-        outline = outlines.of_row(row)
-        return {"outline": outline, "read": lambda: self.read_again(place, path, row[0])}, outline.size
-
-    def read_again(self, place, path, key):
-        data = read_regular(path, self.most)
-        if self.records.key(place, {"bytes": data}) != key:
-            raise Wrong(f"{plain(path)}: it has changed")
-        return data
+        row, is_same = self.records.of_file(place, path) if self.records else (None, False)
+        if is_same and not self.compares:
+            return {"row": row, "path": path}, self.records.stamps[place][0]
+        content, size = super().load(place, path)
+        if row is not None:
+            content["was"] = row
+            self.kept[place] = row if is_same else None
+        return content, size
 
     def read(self, contents):
-        found = {place: content["outline"].sites for place, content in contents.items() if "outline" in content}
+        found = {place: outlines.sites_of_row(content["row"]) for place, content in contents.items() if "row" in content}
         new = {place: content for place, content in contents.items() if place not in found}
         for (place, content), (file_sites, row) in zip(new.items(), self.read_each(new)):
             found[place] = file_sites
             if row is not None:
-                content["outline"] = outlines.of_row(row)
+                content["row"] = row
                 if self.records:
                     self.records.keep(place, row)
         return found
@@ -72,7 +68,7 @@ class Reader(sites.Reader):
         key = self.records.key(place, {"bytes": data}) if self.records else None
         kept = self.kept.get(place) or (self.records.of_key(key) if self.records else None)
         if kept is not None and not self.compares:
-            return outlines.of_row(kept).sites, kept
+            return outlines.sites_of_row(kept), kept
         found, outline = self.program.read(place, data)
         row = outlines.row_of(key, outline) if outline else None
         if kept is not None and kept != row:
@@ -103,6 +99,15 @@ class Library:
             return error.status, f"{error}\n".encode()
 
     # ---- the graph
+
+    def kept_graph(self, settings, modules, records):
+        """The same as graph, of which the last is kept."""
+        from parts import reports
+
+        def sites_of(specifier, data):
+            return self.sites_or_none(data, MEDIA_TYPES[sites.ending_of(specifier)])
+
+        return reports.Reports(records, sites_of, self.api.UNKNOWN).report(settings, modules, self.graph)
 
     def graph(self, settings, modules):
         """The status and the report of the graph of a bundle, by its modules and what else it has; the bundle isn't made."""
@@ -151,7 +156,7 @@ class Library:
             return self.api.Redirect(module["redirect"])
         if "external" in module:
             return self.api.EXTERNAL
-        return module["outline"].data if "outline" in module else module["bytes"]
+        return outlines.data_of_row(module["row"]) if "row" in module else module["bytes"]
 
     def lines_of(self, builder, settings, given):
         """The report, as docs/REPORT.md has it."""
@@ -167,10 +172,10 @@ class Library:
         lines = frame[:len(roots)] + [line for line in frame if line.startswith("import ")]
         states = {line.split(" ")[0]: line for line in frame if " package " in line and not line.startswith(" ")} if packages else {}
         for entry in entries:
-            outline = given.get(entry.specifier, {}).get("outline")
-            lines.append(states.get(entry.specifier) or line_of(entry, outline))
-            places = places_of(outline)
-            lines += [self.edge_line(edge, places) for edge in entry.edges]
+            row = given.get(entry.specifier, {}).get("row")
+            lines.append(states.get(entry.specifier) or line_of(entry, outlines.size_of_row(row) if row else entry.size))
+            spans = outlines.spans_of_row(row) if row and outlines.is_apart(row) else None
+            lines += [self.edge_line(edge, spans) for edge in entry.edges]
         return "".join(line + "\n" for line in [*lines, f"entries {len(entries)}"])
 
     @staticmethod
@@ -187,10 +192,10 @@ class Library:
         scopes = {scope: some(table) for scope, table in rows.get("scopes", {}).items()}
         return {"importMap": {**settings["importMap"], "map": {"imports": some(rows["imports"]), "scopes": {scope: table for scope, table in scopes.items() if table}}}}
 
-    def edge_line(self, edge, places):
-        """The line of an edge. places: those in the text by those in its outline, or None."""
+    def edge_line(self, edge, spans):
+        """The line of an edge. spans: the places in the text by those in its outline, if the edge is of that."""
         kind = f"{edge.kind}-type" if edge.type_only and edge.kind in outlines.TYPED else edge.kind
-        span = "-" if not edge.end else places[edge.start] if places else f"{edge.start}-{edge.end}"
+        span = "-" if not edge.end else spans[edge.start] if spans else f"{edge.start}-{edge.end}"
         attribute = "-" if edge.attribute is None else "?" if edge.attribute is self.api.UNKNOWN else quoted(edge.attribute)
         outcome = f"! {edge.fault}" if edge.fault else f"-> {edge.target_specifier}"
         return f"  {kind} {span} {quoted(edge.value)} {attribute} {outcome}"
@@ -265,17 +270,10 @@ def is_plain(specifier):
     return specifier.startswith("file:///") and bool(urls.PLAIN.fullmatch(specifier, len("file:///"))) and "/." not in specifier and "//" not in specifier[len("file:///"):]
 
 
-def places_of(outline):
-    """The places of sites in a text by their first bytes in its outline, or None if that is the text."""
-    if outline is None or outline.places is None:
-        return None
-    return {outline.places[n]: f"{outline.places[n + 1]}-{outline.places[n + 2]}" for n in range(0, len(outline.places), 3)}
-
-
-def line_of(entry, outline):
-    """The line of an entry that is no package."""
+def line_of(entry, size):
+    """The line of an entry that is no package. size: how many bytes it has, if it is a module."""
     if entry.state == "module":
-        return f"{entry.specifier} module {entry.media_type} {outline.size if outline else entry.size}"
+        return f"{entry.specifier} module {entry.media_type} {size}"
     if entry.state == "redirect":
         return f"{entry.specifier} redirect {entry.target_specifier}"
     return f"{entry.specifier} external" if entry.state == "external" else f"{entry.specifier} error {entry.fault}"

@@ -3,11 +3,12 @@ import base64
 import binascii
 import json
 import re
+import sys
 from bisect import bisect_right
 from urllib.parse import unquote, unquote_to_bytes
 
 from parts import urls
-from parts.words import NoGraph, plain
+from parts.words import NoGraph, plain, read_regular
 
 MARK = b"\xef\xbb\xbf"
 # How many bytes on each side of a place are looked at to show its line.
@@ -20,7 +21,7 @@ class NoBundle(NoGraph):
 
 def has_content(module):
     """Whether a module of a bundle has its content, as text, as base64, or as the bytes of a file, which may be read later."""
-    return "bytes" in module or "read" in module or "text" in module or "base64" in module
+    return "bytes" in module or "path" in module or "text" in module or "base64" in module
 
 
 class Bundle:
@@ -49,8 +50,8 @@ class Bundle:
         module = self.modules.get(specifier, {})
         if "bytes" in module:
             return module["bytes"]
-        if "read" in module:
-            return module["read"]()
+        if "path" in module:
+            return read_again(module["path"], module["row"])
         if "text" in module:
             return module["text"].encode("utf-8", "surrogatepass")
         if "base64" in module:
@@ -66,6 +67,16 @@ class Bundle:
             data = self.bytes_of(specifier)
             self.sources[specifier] = None if data is None else Source(data)
         return self.sources[specifier]
+
+
+def read_again(path, row):
+    """The bytes of a file whose row in the records is this one."""
+    from parts import records
+
+    data = read_regular(path, sys.maxsize - 1)
+    if records.Records.key(path, {"bytes": data}) != row[0]:
+        raise NoBundle(f"{plain(path)}: it has changed")
+    return data
 
 
 def held_by(url):

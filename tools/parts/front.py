@@ -23,8 +23,8 @@ def front_of(folder):
     return "" if path == "." else path + "/"
 
 
-def without_outline(module):
-    return {key: value for key, value in module.items() if key != "outline"}
+def without_row(module):
+    return {key: value for key, value in module.items() if key != "row"}
 
 
 def made_program(loader=None):
@@ -75,21 +75,21 @@ class Run:
         else:
             modules = packer.modules()
             settings = packer.settings(roots, len(modules))
-            status, self.report = self.program.graph(settings, modules)
-            if asked.check_cache and self.program.graph(settings, [without_outline(it) for it in modules]) != (status, self.report):
+            status, self.report = self.program.kept_graph(settings, modules, packer.reader.records) if packer.reader.records else self.program.graph(settings, modules)
+            if asked.check_cache and self.program.graph(settings, [without_row(it) for it in modules]) != (status, self.report):
                 raise Wrong("the graph of what is cached isn't the graph of the files")
         if status:
             raise Wrong(f"there is no graph: {self.report.decode().strip()}")
         if self.rules:
             asked.files.append(asked.policy)
             self.rules.ask(self.program, data)
-        self.contents = packer.by_specifier
+        self.packer = packer
 
     @functools.cached_property
     def bundle(self):
         from parts import bundles
 
-        return bundles.Bundle.of_contents(self.contents)
+        return bundles.Bundle.of_contents(self.packer.by_specifier)
 
     @functools.cached_property
     def graph(self):

@@ -112,6 +112,19 @@ def keep(made, name, ending, most=6):
     return place
 
 
+def keep_data(place, data, most):
+    """Writes a file of the cache in one step; of all that have its ending those that were written last stay."""
+    os.makedirs(KEPT, mode=0o700, exist_ok=True)
+    made = f"{place}.{os.getpid()}"
+    with open(made, "wb") as file:
+        file.write(data)
+    os.replace(made, place)
+    ending = os.path.splitext(place)[1]
+    latest = sorted((it for it in os.scandir(KEPT) if it.name.endswith(ending)), key=lambda it: it.stat().st_mtime)
+    for it in latest[:-most]:
+        os.unlink(it)
+
+
 def seconds_in_times():
     """The seconds of a processor that bench/times has for the proof of each crate, of its latest day."""
     found = {}

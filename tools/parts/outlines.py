@@ -1,6 +1,7 @@
 """Outlines: short texts with the same sites as long ones. A graph depends on a text by its sites alone, so that a graph of outlines
 is that of the texts, but for sizes and places, which are put back; and a text whose outline is known isn't read again."""
 import collections
+import functools
 import json
 
 from parts.sites import Site
@@ -99,6 +100,27 @@ def row_of(key, outline):
 
 
 def of_row(row):
-    _, text, size, places, words = row
-    words = iter(words)
-    return of_no_utf8() if text is None else Outline(text.encode(), size, places, list(map(Site._make, zip(words, words))))
+    return Outline(data_of_row(row), row[2], row[3], sites_of_row(row))
+
+
+def data_of_row(row):
+    return of_no_utf8().data if row[1] is None else row[1].encode()
+
+
+def sites_of_row(row):
+    words = iter(row[4])
+    return list(map(functools.partial(tuple.__new__, Site), zip(words, words)))
+
+
+def size_of_row(row):
+    return row[2]
+
+
+def spans_of_row(row):
+    """The places of the sites in the text, as a report has them, each with its first byte in the outline."""
+    return {at: f"{start}-{end}" for at, start, end in zip(row[3][::3], row[3][1::3], row[3][2::3])}
+
+
+def is_apart(row):
+    """Whether an outline isn't the text itself."""
+    return row[3] is not None

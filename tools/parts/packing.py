@@ -23,6 +23,11 @@ Lead.__doc__ = """Where a specifier leads. place: a file of the folder. url: wha
 no part of the sources. reason: why it leads nowhere. note: what is told of it all the same."""
 
 
+Led = collections.namedtuple("Led", "key target files said", defaults=(None, None, (), None))
+Led.__doc__ = """What follows of a site for each file of a folder that has it. key, target: a row of the import map. files: those to which the
+graph leads. said: the lead, if something is to be said of it."""
+
+
 @functools.lru_cache(sites.MOST_NAMES)
 def folder_of(place):
     return posixpath.dirname(place)
@@ -237,6 +242,7 @@ class Packer:
         self.sites = {}
         self.taken = set()  # the files of the bundle
         self.of_data = set()  # the data: URLs that were walked
+        self.led = {}  # what follows of sites, by folders and ways
         self.maps = collections.defaultdict(dict)  # of a specifier, or a URL that is no file's: its URL by the file that names it
         self.redirects = {}
         self.external = {}
@@ -256,9 +262,9 @@ class Packer:
         return self.why[place]
 
     def found_why_left_out(self, place):
-        if not is_utf8(place):
+        if not (place.isascii() or is_utf8(place)):
             return "its name is no UTF-8"
-        if resolve.is_left_out(place, self.asked.exclude):
+        if self.asked.exclude and resolve.is_left_out(place, self.asked.exclude):
             return "excluded"
         if not (self.takes_any or place.lower().endswith(self.endings)):
             return "its extension"
@@ -272,7 +278,7 @@ class Packer:
 
     def take(self, places):
         """Packs these files and all to which the graph leads from them."""
-        progress, waiting, size = Progress(self.errors), list(places), 0
+        progress, waiting, size, most = Progress(self.errors), list(places), 0, self.reader.most
         try:
             while waiting:
                 new = [place for place in dict.fromkeys(waiting) if place not in self.taken]
@@ -280,7 +286,8 @@ class Packer:
                     self.load(place)
                     self.taken.add(place)
                     size += self.sizes[place]
-                    self.refuse_size(size, self.reader.most)
+                    if size > most:
+                        self.refuse_size(size, most)
                     progress.tell(len(self.taken), size)
                 self.read_sites(new)
                 waiting = [found for place in new for found in self.named_by(place)]
@@ -325,17 +332,32 @@ class Packer:
 
     def named_by(self, place):
         """The files to which a file leads."""
+        at, found = (folder_of(place), sites.is_declaration(place), sites.is_typescript(place)), []
         for site in self.sites[place]:
-            lead = self.lead(place, site)
-            self.put(place, site, lead)
-            if site.value.startswith("data:"):
-                yield from self.named_by_data(place, site.value)
-            if sites.is_followed(self.asked.kind, place, site):
-                if lead.reason:
-                    self.leads_nowhere(place, site, lead)
-                if lead.note:
-                    self.notes.setdefault(site.value, (place, lead))
-                yield from self.files_of(place, lead)
+            led = self.led.get((at, site))
+            if led is None:
+                led = self.led[at, site] = self.led_by(place, site)
+            if led.key is not None:
+                self.maps[led.key][place] = led.target
+            if led.said:
+                self.say_of(place, site, led.said)
+            found += led.files
+        return found
+
+    def led_by(self, place, site):
+        """What follows of a site of a file, and so of each file of its folder that is read as it is."""
+        lead = self.lead(place, site)
+        key, target = self.row_of(place, site, lead)
+        files = list(self.named_by_data(place, site.value)) if site.value.startswith("data:") else []
+        if not sites.is_followed(self.asked.kind, place, site):
+            return Led(key, target, files)
+        return Led(key, target, [*files, *self.files_of(place, lead)], lead if lead.reason or lead.note else None)
+
+    def say_of(self, place, site, lead):
+        if lead.reason:
+            self.leads_nowhere(place, site, lead)
+        if lead.note:
+            self.notes.setdefault(site.value, (place, lead))
 
     def lead(self, place, site):
         """Where a site leads: from a declaration first to declarations, but in a graph of code."""
@@ -379,26 +401,29 @@ class Packer:
                     waiting.append(site.value)
                 elif urls.URL.match(site.value):
                     lead = self.resolver.lead("", site)
-                    self.put(place, site, lead)
+                    key, target = self.row_of(place, site, lead)
+                    if key is not None:
+                        self.maps[key][place] = target
                     yield from self.files_of("", lead)
 
     # ---- what the program is told of a specifier
 
-    def put(self, place, site, lead):
-        """What makes a specifier lead where it does: a row of the import map, a redirect, or that it is external."""
+    def row_of(self, place, site, lead):
+        """The row of the import map that makes a specifier lead where it does, or None of each: there is none, or it is a redirect; and
+        that what it leads to is external."""
         value = site.value
         if not (lead.place or lead.url or lead.external) or not (value.isascii() or is_utf8(value)):
-            return
+            return None, None
         url = self.resolver.url(place, value)
         if isinstance(url, urls.NoUrl):
-            return
+            return None, None
         target = urls.of_file(lead.place) if lead.place else lead.url or url or "external:" + value
         if lead.external:
             self.external[target] = None
         if url is not None and url != target and url.endswith("/"):
             self.redirects[url] = target  # the key of a map that ends with / stands for what is below it
-        else:
-            self.maps[value if url is None else url][place] = target
+            return None, None
+        return value if url is None else url, target
 
     def leads_nowhere(self, place, site, lead):
         value = site.value
@@ -443,12 +468,13 @@ class Packer:
 
     @functools.cached_property
     def by_specifier(self):
-        """What the bundle has for each module, by its specifier, once all is taken."""
+        """What the bundle has for each module, by its specifier, in the order of paths, once all is taken."""
         return {urls.of_file(place): self.contents[place] for place in sorted(self.taken, key=in_order)}
 
     def modules(self):
         """The modules of the bundle."""
-        modules, taken = [{"specifier": specifier, **content} for specifier, content in self.by_specifier.items()], self.by_specifier
+        taken = self.by_specifier if self.reader.reads_ahead else {urls.of_file(place): content for place, content in self.contents.items()}
+        modules = [{"specifier": specifier, **content} for specifier, content in taken.items()]
         modules += [{"specifier": url, "redirect": to} for url, to in sorted(self.redirects.items()) if url not in taken]
         return modules + [{"specifier": url, "external": True} for url in sorted(self.external) if url not in taken]
 

@@ -47,14 +47,15 @@ class Records:
     # ---- by the file
 
     def of_file(self, place, path):
-        """The row of a file's text, if the file has the size and the times that it had; else None."""
+        """The row that a file's text had, or None, and whether the file has the size and the times that it had."""
+        kept = self.files.get(place)
+        row = self.rows[kept[0]] if kept else None
         try:
             found = os.stat(path)
         except (OSError, ValueError):
-            return None
+            return row, False
         stamp = self.stamps[place] = [found.st_size, found.st_mtime_ns, found.st_ctime_ns, found.st_ino]
-        row = self.files.get(place)
-        return self.rows[row[0]] if row and row[1:] == stamp and stat.S_ISREG(found.st_mode) else None
+        return row, kept is not None and kept[1:] == stamp and stat.S_ISREG(found.st_mode)
 
     # ---- by the content
 
@@ -100,19 +101,6 @@ class Records:
         files = {place: [number - gone, *stamp] for place, (number, *stamp) in self.files.items() if number >= gone} if gone else self.files
         value = {"known": self.known, "rows": self.rows[gone:], "files": files}
         try:
-            data = json.dumps(value, ensure_ascii=False, separators=(",", ":")).encode()
-            os.makedirs(kit.KEPT, mode=0o700, exist_ok=True)
-            made = f"{self.path}.{os.getpid()}"
-            with open(made, "wb") as file:
-                file.write(data)
-            os.replace(made, self.path)
-            self.sweep()
+            kit.keep_data(self.path, json.dumps(value, ensure_ascii=False, separators=(",", ":")).encode(), MOST_FOLDERS)
         except (OSError, ValueError):
             pass
-
-    @staticmethod
-    def sweep():
-        """The files that were written last stay."""
-        files = sorted((it for it in os.scandir(kit.KEPT) if it.name.endswith(".records")), key=lambda it: it.stat().st_mtime)
-        for it in files[:-MOST_FOLDERS]:
-            os.unlink(it)

@@ -76,6 +76,7 @@ class Folder:
 
     def __init__(self, root, links_out=False):
         self.root = root
+        self.front = os.path.join("" if root == "." else root, "")
         self.real_root = os.path.realpath(root)
         self.links_out = links_out
         self.names = {}
@@ -84,7 +85,7 @@ class Folder:
         self.tables = {}
 
     def path(self, place):
-        return os.path.join("" if self.root == "." else self.root, place) or "."
+        return self.front + place or "."
 
     def names_in(self, place):
         """The names that stand in a folder, each with what it is, or None of a link, until what that leads to is asked for."""

@@ -202,6 +202,45 @@ class Library(Loader):
             self.put({"c.ts": 'import "./b"'})
             self.assertEqual([self.packed("c.ts")[1] for _ in range(2)], [["c.ts"], ["c.ts"]])
 
+    # What is written (None: gone), and whether the graph is built anew.
+    CHANGES = (({}, True), ({}, False), ({"a.ts": 'import "./b"; import "./j.json"; // é'}, False), ({"a.ts": '/* é */ import "./b"; import "./j.json";'}, False),
+               ({"b.ts": f'{LONG} import type {{ T }} from "./c"; import("./d"); export * from "./a"; '}, False),
+               ({"b.ts": f' import type {{ T }} from "./c"; import("./d"); export * from "./a";{LONG}{LONG}'}, False),
+               ({"b.ts": 'import type { T } from "./c"; import("./d"); export * from "./a";', "a.ts": 'import "./b";\nimport "./j.json"; let a;'}, False),
+               ({"b.ts": 'import { T } from "./c"; import("./d"); export * from "./a";'}, True), ({"j.json": "[1, 2, 3]"}, False), ({"c.ts": "export type T = 2; //"}, False),
+               ({"c.ts": "export type T ="}, True), ({"c.ts": "'"}, False), ({"c.ts": f"'{LONG}'"}, False), ({"c.ts": f"export type T = 1;{LONG}"}, True), ({"d.ts": None}, True),
+               ({"d/index.ts": "export {};"}, True), ({"d.ts": "export {};"}, True), ({"d/index.ts": "import './a'"}, False), ({"\ufeff": None, "c.ts": "\ufeffexport type T = 1;"}, False),
+               ({"a.ts": 'import "./b"; import "./j.json"; import "data:text/javascript,1"; import "none"; import "./none"'}, True),
+               ({"a.ts": 'import "./b"; import "./j.json"; import "data:text/javascript,1"; import "none"; import "./none";;'}, False),
+               ({"package.json": {"imports": {"#a": "./a.ts"}}}, False), ({"b.ts": 'import { T } from "./c"; import("#a"); export * from "./a";'}, True),
+               ({f"e{n}.ts": "" for n in range(120)} | {"a.ts": "".join(f"import './e{n}';" for n in range(120))}, True), ({f"e{n}.ts": "//" for n in range(120)}, True),
+               ({f"e{n}.ts": "///" for n in range(90)}, False))
+
+    def test_the_graph_is_built_where_sites_change(self):
+        self.put({"a.ts": 'import "./b"; import "./j.json";', "j.json": "{}", "c.ts": "export type T = 1;", "d.ts": "export {};",
+                  "b.ts": f'import type {{ T }} from "./c"; import("./d"); export * from "./a";{LONG}'})
+        with mock.patch.object(records, "SHORTLY", 0), mock.patch.object(kit, "KEPT", os.path.join(self.room, "kept")):
+            for changes, is_built in self.CHANGES:
+                for path, text in changes.items():
+                    if text is None and path != "\ufeff":
+                        os.remove(os.path.join(self.room, path))
+                self.put({path: text for path, text in changes.items() if text is not None})
+                self.assertEqual(self.is_built(), is_built, changes)
+
+    def is_built(self):
+        """Whether the graph is built; it is that of the whole texts."""
+        made, built = builder.Library(self.library), []
+        kept = records.Records(made)
+        packer, roots = packing.packed(kit.tool("pack").options().parse_args(["--packages", self.room, "a.ts"]), builder.Reader(made, kept), sys.stderr)
+        kept.save()
+        modules = packer.modules()
+        settings = packer.settings(roots, len(modules))
+        with mock.patch.object(made, "graph", lambda *asked: (built.append(asked), builder.Library.graph(made, *asked))[1]):
+            found = made.kept_graph(settings, modules, kept)
+        packer, roots = packing.packed(kit.tool("pack").options().parse_args(["--packages", self.room, "a.ts"]), builder.Reader(made), sys.stderr)
+        self.assertEqual(found, made.graph(settings, [{key: it for key, it in module.items() if key != "row"} for module in packer.modules()]))
+        return bool(built)
+
     def test_what_is_kept_is_compared(self):
         self.put({"a.ts": 'import "./b"', "b.ts": "", "c.ts": ""})
         with mock.patch.object(records, "SHORTLY", 0):
