@@ -402,7 +402,6 @@ pub struct ModifiedMember(pub Lang, pub Context);
 impl ReadsProduction<Row> for ModifiedMember {
     ghost rule = { λ s. modified_member s.0 s.1 };
 
-    #[tactic(auto, using(crate::proofs::Members::plain_member), unfolding(es_grammar::specs::Classes::modified_member, es_grammar::specs::Functions::opens_any_method))]
     fn read<T: Rows<Row>>(
         &self,
         grammar: &Grammar<'_, T>,
