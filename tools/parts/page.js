@@ -129,24 +129,26 @@ function columnsByDepth(boxes) {
   for (const box of boxes) { if (!levels.has(box.depth)) levels.set(box.depth, []); levels.get(box.depth).push(box); }
   return [...levels.keys()].sort((a, b) => a - b).map(depth => levels.get(depth));
 }
+/* Boxes of modules of one folder: of many, one for each number of steps from a root. */
+function boxesBySteps(path, own, many, mostOf, go) {
+  const steps = new Map();
+  for (const entry of own) { const step = own.length > many ? entry.depth : 0; if (!steps.has(step)) steps.set(step, []); steps.get(step).push(entry); }
+  return [...steps].map(([step, part]) => {
+    const title = steps.size > 1 ? `${path}: ${step === 0 ? 'roots' : counted(step, 'step', 'steps') + ' from a root'}` : path;
+    return { ...boxOf(title, part, mostOf(steps.size), false, go), depth: Math.min(...part.map(entry => entry.depth)) };
+  });
+}
 function ofFolder(folder) {
   const at = within(folder), list = [...at.all()].filter(isUnder);
   if (list.length + data.faults.length <= SMALL) {
     const held = new Map();
     for (const entry of list) { if (!held.has(entry.at)) held.set(entry.at, []); held.get(entry.at).push(entry); }
-    return columnsByDepth([...held].map(([it, own]) => ({ ...boxOf(it.path, own, SMALL, false, () => go({ view: 'folder', at: it.path })), depth: Math.min(...own.map(entry => entry.depth)) })));
+    const many = held.size === 1 ? 8 : MOST_ROWS;
+    return columnsByDepth([...held].flatMap(([it, own]) => boxesBySteps(it.path, own, many, () => SMALL, () => go({ view: 'folder', at: it.path }))));
   }
-  const below = [...at.below.values()].map(within).filter(it => !now.under || [...it.all()].some(isUnder)), boxes = [];
+  const below = [...at.below.values()].map(within).filter(it => !now.under || [...it.all()].some(isUnder));
   const most = below.length > 24 ? 0 : below.length > 10 ? 2 : 6;
-  for (const it of below) boxes.push(clusterOf(it, most));
-  const steps = new Map();
-  for (const entry of at.own.filter(isUnder)) { const step = at.own.length > MOST_ROWS ? entry.depth : 0; if (!steps.has(step)) steps.set(step, []); steps.get(step).push(entry); }
-  for (const [step, own] of steps) {
-    const most = steps.size > 1 ? 16 : MOST_ROWS;
-    const title = steps.size > 1 ? `${at.path}: ${step === 0 ? 'roots' : counted(step, 'step', 'steps') + ' from a root'}` : at.path;
-    boxes.push({ ...boxOf(title, own, most, false), depth: Math.min(...own.map(entry => entry.depth)) });
-  }
-  return columnsByDepth(boxes);
+  return columnsByDepth([...below.map(it => clusterOf(it, most)), ...boxesBySteps(at.path, at.own.filter(isUnder), MOST_ROWS, count => count > 1 ? 16 : MOST_ROWS)]);
 }
 /* The entries that are so many steps away, by edges that aren't hidden. */
 function stepsFrom(entry, depth, side, end) {
@@ -223,7 +225,7 @@ function bandsOf(levels, mostHigh, mostWide) {
   return bands;
 }
 const sizeOf = bands => ({
-  wide: Math.max(0, ...bands.map(band => band.reduce((sum, column) => sum + wideOf(column) + GAP, -GAP))) + 48,
+  wide: Math.max(0, ...bands.map(band => band.reduce((sum, column) => sum + wideOf(column) + GAP, -GAP))) + 96,
   high: bands.reduce((sum, band) => sum + Math.max(...band.map(highOf)) + 2 * BETWEEN, 20),
 });
 const scaleOf = size => Math.min(1.25, get('view').clientWidth / size.wide, get('view').clientHeight / size.high);
