@@ -207,14 +207,21 @@ class Library:
         ending = sites.ending_of(place)
         if ending is None:
             return (), outlines.without_sites(data)
-        if ending == ".wasm" or len(data) > MOST_BYTES:
+        if ending == ".wasm":
             return self.edges_alone(f"file:///0{ending}", data).get(f"file:///0{ending}", ()), None
         try:
-            found = self.api.imports_of(data, MEDIA_TYPES[ending])
+            found = self.edges_of(f"file:///0{ending}", data) if len(data) > MOST_BYTES else self.api.imports_of(data, MEDIA_TYPES[ending])
         except self.api.SourceError as error:
             return (), outlines.of_no_utf8() if error.status == NO_UTF8 else outlines.of_no_program() if error.status in NOT_A_PROGRAM else None
         outline = outlines.outline_of(data, found, lambda text: self.sites_or_none(text, MEDIA_TYPES[ending]), self.api.UNKNOWN)
         return list(dict.fromkeys(map(outlines.named, found))), outline
+
+    def edges_of(self, specifier, data):
+        """The edges of a source of any length, as a graph of it alone has them."""
+        entry = self.api.Graph(self.built(specifier, data))[specifier]
+        if entry.fault:
+            raise self.api.SourceError(NO_UTF8 if entry.fault == "Decode" else NO_PROGRAM, entry.place)
+        return entry.edges
 
     def sites_or_none(self, data, media_type):
         try:
@@ -225,15 +232,19 @@ class Library:
     def edges_alone(self, root, data=None):
         """The sites of a module, and of each data: URL below it, with nothing else in the graph."""
         try:
-            builder = self.api.Builder([root], limit=1_000_000)
+            builder = self.built(root, data)
         except self.api.BundleError:
             return {}
-        start = 0
+        return {entry.specifier: list(dict.fromkeys(map(outlines.named, entry.edges))) for entry in self.api.Graph(builder).entries if entry.edges}
+
+    def built(self, root, data):
+        """The builder of a graph of one root, of which nothing else is there."""
+        builder, start = self.api.Builder([root], limit=1_000_000), 0
         while not builder.poll():
             for number, specifier in list(builder.wanted(start)):
                 builder.answer(number, data if specifier == root else None)
                 start = number + 1
-        return {entry.specifier: list(dict.fromkeys(map(outlines.named, entry.edges))) for entry in self.api.Graph(builder).entries if entry.edges}
+        return builder
 
     def which_are_read(self, specifier, texts):
         """Of each text whether it is a program of the grammar, as a module of this specifier's ending."""

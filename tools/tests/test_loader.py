@@ -173,6 +173,10 @@ class Library(Loader):
         self.put({"main.ts": "import './a.js'; import './b.js'", "c.js": ""})
         status, out, _ = ran("graph", "--loader", "library", "main.ts", at=self.room)
         self.assertEqual((status, out.count(b" module "), out.count(b' -> file:///c.js\n')), (0, 4, 2))
+        self.assertIn(b'file:///b.js module JavaScript 17000019\n  import 7-15 "./c.js" - -> file:///c.js\n', out)
+        made, more = builder.Library(self.library), b"/" * 17_000_000
+        self.assertEqual(made.read("a.ts", b"import './c' //" + more)[1].places, [15, 7, 12])
+        self.assertEqual([made.read("a.ts", text + more)[1] for text in (b"a b //", b"'", b"\xff//")], [outlines.of_no_program(), outlines.of_no_program(), outlines.of_no_utf8()])
 
     def test_files_are_read_once_and_only_if_they_are_reached(self):
         self.put({"a.ts": 'import "./b"; import "./b.ts"; // import "./c"', "b.ts": 'import "./a"', "c.ts": ""})
