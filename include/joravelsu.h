@@ -25,14 +25,14 @@ enum {
     JORAVELSU_BAD_BUNDLE = 2,      /* build: over 16 MiB, no JSON, or no bundle; a line that says which was written */
     JORAVELSU_NO_ROOM = 4,         /* a buffer is too small: nothing was written, and the call answers what is needed */
     JORAVELSU_NO_MEMORY = 5,       /* out of memory: nothing was written */
-    JORAVELSU_TOO_LONG = 6,        /* sites, unread, rewrite, exports: the text is over 16 MiB */
-    JORAVELSU_NO_UTF8 = 7,         /* sites, unread, rewrite, exports: the text is no UTF-8; the answer says from which byte on,
+    JORAVELSU_TOO_LONG = 6,        /* sites, unread, mentions, rewrite, exports: the text is over 16 MiB */
+    JORAVELSU_NO_UTF8 = 7,         /* sites, unread, mentions, rewrite, exports: the text is no UTF-8; the answer says from which byte on,
                                       counted from the first, that of a byte order mark too */
-    JORAVELSU_NO_MEDIA_TYPE = 8,   /* sites, rewrite, exports: no media type has this number */
-    JORAVELSU_NOT_READ = 9,        /* sites, rewrite, exports: modules of this media type are no sources */
-    JORAVELSU_LEXICAL_FAULT = 10,  /* sites, unread, rewrite, exports: a part of the text is no token; the answer says which
+    JORAVELSU_NO_MEDIA_TYPE = 8,   /* sites, mentions, rewrite, exports: no media type has this number */
+    JORAVELSU_NOT_READ = 9,        /* sites, mentions, rewrite, exports: modules of this media type are no sources */
+    JORAVELSU_LEXICAL_FAULT = 10,  /* sites, unread, mentions, rewrite, exports: a part of the text is no token; the answer says which
                                       fault, and where */
-    JORAVELSU_SYNTAX_FAULT = 11,   /* sites, rewrite, exports: the tokens are no program of the grammar; the answer says where
+    JORAVELSU_SYNTAX_FAULT = 11,   /* sites, mentions, rewrite, exports: the tokens are no program of the grammar; the answer says where
                                       that was noticed (the one place that no proof covers) */
     JORAVELSU_NO_VALUE = 12,       /* rewrite: a change's specifier isn't in the buffer of values, or is no UTF-8 */
     JORAVELSU_NO_SITE = 13,        /* rewrite: no site has the number of a change */
@@ -162,6 +162,31 @@ typedef struct joravelsu_unread_answer {
     uint32_t fault;     /* the lexical fault at JORAVELSU_LEXICAL_FAULT, else 0 */
     size_t place;       /* where the fault is, else 0 */
 } joravelsu_unread_answer;
+
+/* Why something is mentioned. */
+enum {
+    JORAVELSU_MENTION_NAME = 0,   /* a name that no scope of the text declares and that isn't allowed */
+    JORAVELSU_MENTION_IMPORT = 1, /* import(..), in any phase, whose first argument is no string literal alone */
+    JORAVELSU_MENTION_META = 2,   /* import.meta, but not in new URL("a", import.meta.url) */
+    JORAVELSU_MENTION_WITH = 3,   /* the word with */
+    JORAVELSU_MENTION_MEMBER = 4, /* strict: a member or a key of a pattern: constructor, __proto__, __defineGetter__, or with an escape */
+    JORAVELSU_MENTION_KEY = 5,    /* strict: a computed member or key of a pattern that is no literal */
+    JORAVELSU_MENTION_THIS = 6    /* strict: this, in a script */
+};
+
+/* Something that a text mentions and a graph doesn't show: its bytes in the text. */
+typedef struct joravelsu_mention {
+    uint32_t reason;    /* JORAVELSU_MENTION_NAME or another of its list */
+    size_t start;
+    size_t end;
+} joravelsu_mention;
+
+/* What joravelsu_mentions answers beside its buffer. */
+typedef struct joravelsu_mentions_answer {
+    size_t mentions;    /* how many there are: what the buffer must hold */
+    uint32_t fault;     /* the lexical fault at JORAVELSU_LEXICAL_FAULT, else 0 */
+    size_t place;       /* where the fault is, else 0 */
+} joravelsu_mentions_answer;
 
 /* A new specifier for a site. */
 typedef struct joravelsu_change {
@@ -342,6 +367,24 @@ uint32_t joravelsu_sites(const uint8_t *text, size_t text_length, uint32_t media
  */
 uint32_t joravelsu_unread(const uint8_t *text, size_t text_length, joravelsu_call *calls, size_t calls_length,
                           joravelsu_unread_answer *answer);
+
+/* What a source text mentions that a graph of its modules doesn't show, in the order of the text: a list whose emptiness says
+ * that each name which the text uses at run time is declared in it or allowed, that each import() is one of a literal, and
+ * that it has no import.meta but the address of a literal, and no with. What leaves nothing at run time (types, what is
+ * declared for types alone) is passed over; outside a script the name arguments is allowed. A text without a tree has no such
+ * list: the call answers why.
+ *
+ * text, text_length, media_type: as for joravelsu_sites.
+ * allowed, allowed_length: the names that are allowed, in UTF-8, a line each; if they are no UTF-8, none is allowed.
+ * strict: not 0 lists also what may reach the makers of code by a property.
+ * mentions, mentions_length: a record for each is written here; the length counts records.
+ * answer: always written; where the buffer is too small, it says what it must hold.
+ *
+ * Answers as joravelsu_sites.
+ */
+uint32_t joravelsu_mentions(const uint8_t *text, size_t text_length, uint32_t media_type, const uint8_t *allowed,
+                            size_t allowed_length, uint32_t strict, joravelsu_mention *mentions, size_t mentions_length,
+                            joravelsu_mentions_answer *answer);
 
 /* A source text with other specifiers at some of its sites. The literal of each of these is replaced by one in double quotes;
  * all else stays byte for byte, but for a byte order mark in front, which isn't written. The new text is read as the old one,

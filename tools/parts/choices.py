@@ -1,9 +1,9 @@
 """The options that several commands have, and the words that they take."""
 import argparse
 
-# What a run may fail on, of a report; `check` may on calls that are unread, too.
+# What a run may fail on, of a report; `check` may on calls that are unread, and on what modules mention, too.
 FAIL_ON = ("missing", "parse", "fault", "cycle", "unreached")
-CHECKED = (*FAIL_ON, "unread")
+CHECKED = (*FAIL_ON, "unread", "mention")
 KINDS = ("all", "code", "types")
 
 
@@ -17,6 +17,13 @@ def words_of(text, known=FAIL_ON):
 
 def names_in(text):
     return [name for name in text.split(",") if name]
+
+
+def add_allowed(parser):
+    """The options that choose what modules may mention."""
+    parser.add_argument("--host", action="store_true", help="allow names of hosts that load nothing, such as console")
+    parser.add_argument("--allow", type=names_in, action="extend", default=[], metavar="NAME,..", help="allow these names too")
+    parser.add_argument("--strict", action="store_true", help="list also what may reach the makers of code by a property")
 
 
 def add_options(parser):

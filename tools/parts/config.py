@@ -9,7 +9,7 @@ NAME = "joravelsu.json"
 KEYS = {
     "roots": ("roots", list), "folder": ("folder", str), "kind": ("kind", str), "tsconfig": ("tsconfig", str), "deno": ("deno", str), "also": ("also", list),
     "exclude": ("exclude", list), "external": ("external", list), "conditions": ("conditions", list), "failOn": ("fail_on", list), "policy": ("policy", str), "all": ("all", bool),
-    "packages": ("packages", bool), "browser": ("browser", bool), "commonJs": ("commonjs", bool), "allForms": ("all_forms", bool), "linksOut": ("links_out", bool),
+    "allow": ("allow", list), "host": ("host", bool), "strict": ("strict", bool), "packages": ("packages", bool), "browser": ("browser", bool), "commonJs": ("commonjs", bool), "allForms": ("all_forms", bool), "linksOut": ("links_out", bool),
 }
 # Options whose values are paths from the file's folder.
 PATHS = ("roots", "folder", "tsconfig", "deno", "policy")

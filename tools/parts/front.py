@@ -51,13 +51,13 @@ def rules_of(path):
 class Run:
     """One run over a project."""
 
-    def __init__(self, asked, choices):
+    def __init__(self, asked, choices, by_program=False):
+        """by_program: what is asked of the graph the second program tells, of a bundle, which the library has none of."""
         self.asked = asked
         self.paths = []
         self.configure(choices)
         self.rules = rules_of(getattr(asked, "policy", None))
-        # Rules are asked of a bundle, which the library has none of.
-        asked.loader = "program" if self.rules else asked.loader
+        asked.loader = "program" if self.rules or by_program else asked.loader
         asked.roots = list(self.roots(asked.roots or [asked.folder or project.named_above(os.getcwd())]))
         # Calls of require are edges of the second program's graphs alone, and it alone reads all forms.
         self.program = made_program("program" if asked.commonjs or asked.all_forms else asked.loader)
@@ -69,9 +69,9 @@ class Run:
         asked.files = [os.path.join(asked.folder, place) for place in sorted(packer.taken)] if getattr(asked, "watch", False) else []
         packer.tell()
         if packer.reader.reads_ahead:
-            data = packer.bundle(roots).encode()
-            packer.refuse_size(len(data))
-            status, self.report = self.program.report(data, packer.has_choices)
+            self.data = packer.bundle(roots).encode()
+            packer.refuse_size(len(self.data))
+            status, self.report = self.program.report(self.data, packer.has_choices)
         else:
             modules = packer.modules()
             settings = packer.settings(roots, len(modules))
@@ -82,7 +82,7 @@ class Run:
             raise Wrong(f"there is no graph: {self.report.decode().strip()}")
         if self.rules:
             asked.files.append(asked.policy)
-            self.rules.ask(self.program, data)
+            self.rules.ask(self.program, self.data)
         self.packer = packer
 
     @functools.cached_property

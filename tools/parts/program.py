@@ -19,6 +19,11 @@ class NoProgram(NoGraph):
     """There is no program, or it gave no report; why, in a line."""
 
 
+def with_keys(bundle, **keys):
+    """A bundle with further keys, which the second program knows."""
+    return json.dumps({**json.loads(bundle), **keys}, ensure_ascii=False).encode("utf-8", "surrogatepass") if keys else bundle
+
+
 class Program:
     reader = sites.Reader
     forms = {}  # the key of a bundle by which all forms are read, if they are
@@ -62,8 +67,14 @@ class Program:
 
     def policy(self, bundle, rules):
         """The status, and what the second program says of rules on the graph of a bundle."""
-        value = {**json.loads(bundle), "policy": rules}
-        return self.answer("policy", json.dumps(value, ensure_ascii=False).encode("utf-8", "surrogatepass"), True)
+        return self.answer("policy", with_keys(bundle, policy=rules), True)
+
+    def told(self, word, bundle, **keys):
+        """The lines that the second program writes with this word for a bundle, which may get further keys."""
+        status, said = self.answer(word, with_keys(bundle, **keys), True)
+        if status:
+            raise NoProgram(said.decode().strip())
+        return said.decode().splitlines()
 
     def graph(self, settings, modules):
         """The status and the report of the graph of a bundle, by its modules and what else it has."""
@@ -82,7 +93,6 @@ class Program:
         wanted = {f"{name} error Parse" for name in names}
         refused = {line for line in report.decode().split("\n") if line in wanted}
         return [f"{name} error Parse" not in refused for name in names]
-
 
     @staticmethod
     def stop_of(_specifier, _text):

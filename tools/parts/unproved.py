@@ -257,6 +257,8 @@ fn call_each(rt: &HostRuntime) {
     let _ = joravelsu_rewrite(rt.alloc(), b"", 3, &[], b"", &mut [], &mut made);
     let mut exported = ExportsAnswer { exports: 0, reexports: 0, value_bytes: 0, fault: 0, place: 0 };
     let _ = joravelsu_exports(rt.alloc(), b"", 3, 0, &mut [], &mut [], &mut exported);
+    let mut mentioned = MentionsAnswer { mentions: 0, fault: 0, place: 0 };
+    let _ = joravelsu_mentions(rt.alloc(), b"", 3, b"", 0, &mut [], &mut mentioned);
     let mut held = graph::nothing();
     let mut wanted = Wanted { number: 0, needed: 0 };
     let mut entry = graph_session::no_entry();

@@ -17,15 +17,17 @@ RULES = {
     "DataUrl": "A data: URL holds nothing", "PackageReference": "A specifier names no package", "InvalidDowngrade": "An import leads from https to http",
     "InvalidLocalImport": "An import leads from the web to a local file", "InvalidTypeAssertion": "An import attribute doesn't fit the module",
     "InvalidSourcePhase": "A source is imported of what isn't WebAssembly", "Refused": "An import map refuses a specifier",
-    "policy": "A rule forbids an entry or an edge", "unread": "A call that may load a module and is no edge", "cycle": "Modules that load each other",
+    "policy": "A rule forbids an entry or an edge", "mention": "Something that the graph doesn't show", "unread": "A call that may load a module and is no edge", "cycle": "Modules that load each other",
 }
 
 
 class Verdict:
-    def __init__(self, run, summary, found, rows, fail_on):
-        """run: the run; summary: its counts; found: its faults; rows: what is unread; fail_on: words of --fail-on."""
+    def __init__(self, run, summary, found, rows, fail_on, mentioned=None):
+        """run: the run; summary: its counts; found: its faults; rows: what is unread; fail_on: words of --fail-on; mentioned: what the
+        modules mention, if that is asked."""
         self.run, self.summary, self.faults, self.rows, self.fail_on, self.rules = run, summary, found, rows, fail_on, getattr(run, "rules", None)
-        self.words = summary.what_is_there() | ({"unread"} if rows else set())
+        self.mentioned = mentioned
+        self.words = summary.what_is_there() | ({"unread"} if rows else set()) | ({"mention"} if mentioned and mentioned.rows else set())
         self.breach = self.rules.breach if self.rules else None
         self.status = 1 if self.breach or self.words & set(fail_on) else 0
 
@@ -33,10 +35,14 @@ class Verdict:
         said = report.counted(len(self.faults), "fault", "faults") if self.faults else "no faults"
         if self.rows:
             said += f"; {report.counted(len(self.rows), 'place', 'places')} of import(..) and require(..) that no graph shows"
+        if self.mentioned:
+            said += f"; {report.counted(len(self.mentioned.rows), 'mention', 'mentions')}"
         return f"{said}; status {self.status}"
 
     def found(self):
         """Each row, in the order of the text form."""
+        from parts import kit
+
         for fault in self.faults:
             source = self.run.bundle.source(fault.specifier) if fault.start is not None else None
             place = source.place(fault.start) if source else None
@@ -49,6 +55,8 @@ class Verdict:
             specifier, line, column, word, argument, own = row
             hint = ", unless it is a require of the file itself" if own else ""
             yield Found("error" if "unread" in self.fail_on else "warning", "unread", f"{word}({argument}) gives no edge{hint}", specifier, None, None, (line, column), row)
+        for specifier, line, column, reason, text in self.mentioned.rows if self.mentioned else ():
+            yield Found("error", "mention", kit.tool("mentions").said(reason, text), specifier, None, None, (line, column), (reason, text))
         for part in self.summary.cycles:
             level = "error" if "cycle" in self.fail_on else "warning"
             yield Found(level, "cycle", self.summary.cycle(part), part[0].specifier, None, None, None, part)
@@ -62,7 +70,11 @@ class Verdict:
         if self.breach:
             found += faults.lines_of(faults.Fault("Policy", *self.breach), self.run.bundle, self.run.front)
         found += kit.tool("unread").lines_of(self.rows, self.run.front)
-        return [*found, *[""] * bool(found), *self.summary.lines(), *([self.rules.line()] if self.rules else []), self.line()]
+        below = []
+        if self.mentioned:
+            found += [self.mentioned.line_of_names(), *self.mentioned.lines(self.run.front)]
+            below = self.mentioned.lines_below()
+        return [*found, *[""] * bool(found), *self.summary.lines(), *below, *([self.rules.line()] if self.rules else []), self.line()]
 
     # ---- JSON
 
@@ -82,8 +94,9 @@ class Verdict:
             "roots": graph.roots,
             "counts": {"entries": len(graph.entries), **{f"{kind}s": states[kind] for kind in ("module", "package", "redirect", "external", "error")},
                        "edges": len(edges), "edgesWithoutTarget": sum(1 for edge in edges if edge.fault)},
-            "faults": [self.fault_value(found) for found in self.found() if found.rule not in ("policy", "unread", "cycle")],
+            "faults": [self.fault_value(found) for found in self.found() if found.rule not in ("policy", "unread", "mention", "cycle")],
             "unread": [{**self.where(found), "call": found.cause[3], "argument": found.cause[4], "maybeOwn": found.cause[5]} for found in self.found() if found.rule == "unread"],
+            **({"mentions": self.mentions_value()} if self.mentioned else {}),
             "cycles": [[entry.specifier for entry in part] for part in self.summary.cycles],
             **({"policy": self.rules.value(next((self.where(found) for found in self.found() if found.rule == "policy"), {}))} if self.rules else {}),
             **({"unreached": self.summary.unreached} if self.summary.unreached is not None else {}),
@@ -94,6 +107,10 @@ class Verdict:
         if found.start is not None:
             value["range"] = [found.start, found.end]
         return value
+
+    def mentions_value(self):
+        return {"allowed": self.mentioned.names, "strict": self.mentioned.strict,
+                "found": [{**self.where(found), "reason": found.cause[0], "text": found.cause[1]} for found in self.found() if found.rule == "mention"]}
 
     def where(self, found):
         value = {"specifier": found.specifier}

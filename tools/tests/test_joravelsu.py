@@ -30,6 +30,20 @@ def schema(name):
         return json.load(file)
 
 
+class Project(unittest.TestCase):
+    """A folder with these files."""
+
+    FILES = {}
+
+    def setUp(self):
+        room = tempfile.TemporaryDirectory()
+        self.addCleanup(room.cleanup)
+        self.room = room.name
+        for name, text in self.FILES.items():
+            with open(os.path.join(self.room, name), "w", encoding="utf-8") as file:
+                file.write(text)
+
+
 class Check(unittest.TestCase):
     def test_json(self):
         status, out, _ = ran("check", "--json", "--all", DEMO)
@@ -152,6 +166,78 @@ class Why(unittest.TestCase):
             found = why.Reason(graph, graph.entries["file:///" + name])
             self.assertEqual([before.specifier for before, _ in found.way], ["file:///" + it for it in way], name)
             self.assertEqual(found.alone, ["file:///" + it for it in alone], name)
+
+
+class Order(Project):
+    FILES = {"package.json": "{}", "main.ts": "import './a'; import './b'; import('./c');", "a.ts": "import './b';", "b.ts": "import './a'; import './d';", "c.ts": "import './main';", "d.ts": ""}
+
+    def test_cycles_are_groups(self):
+        self.assertEqual(ran("order", "main.ts", cwd=self.room), (0, "d.ts\na.ts <-> b.ts\nmain.ts\nc.ts\n", ""))
+        value = json.loads(ran("order", "--json", "main.ts", cwd=self.room)[1])
+        self.assertEqual(value, {"format": "joravelsu-order", "version": 1, "groups": [["file:///d.ts"], ["file:///a.ts", "file:///b.ts"], ["file:///main.ts"], ["file:///c.ts"]]})
+
+
+class Mentions(Project):
+    FILES = {"package.json": "{}", "main.ts": "import './a.js'; import type { T } from './t'; const u = new URL('./w.wasm', import.meta.url); export { u };",
+             "a.js": "import './b.cjs'; console.log(eval('1'));\nexport default (a = require, b) => { var require; return b.constructor(a) };",
+             "b.cjs": "require('./main.ts'); with (a) b;", "t.d.ts": "export interface T { a: Function }", "quiet.ts": "export const a = Math.max(1, 2);", "typed.ts": "import { T } from './t'; let t: T; export { t };",
+             "slip.ts": "a b;", "data.ts": "import 'data:text/javascript,eval(1)';"}
+    LISTED = ["a.js:1:19: console is declared nowhere in the text, and isn't allowed", "a.js:1:31: eval is declared nowhere in the text, and isn't allowed",
+              "a.js:2:21: require is declared nowhere in the text, and isn't allowed", "b.cjs:1:1: require is declared nowhere in the text, and isn't allowed",
+              "b.cjs:1:23: with may make a name of a property", "b.cjs:1:29: a is declared nowhere in the text, and isn't allowed", "b.cjs:1:32: b is declared nowhere in the text, and isn't allowed",
+              "main.ts:1:62: URL is declared nowhere in the text, and isn't allowed"]
+
+    def lines(self, *words):
+        status, out, errors = ran(*words, cwd=self.room)
+        self.assertEqual(errors, "")
+        return status, out.splitlines()
+
+    def test_each(self):
+        status, lines = self.lines("mentions", "main.ts")
+        self.assertEqual((status, lines[1:-1]), (1, self.LISTED))
+        self.assertTrue(lines[0].startswith("allowed: AggregateError Array "))
+        self.assertNotIn("eval", lines[0].split(" "))
+        self.assertIn("which --strict lists", lines[-1])
+
+    def test_what_is_allowed(self):
+        status, lines = self.lines("mentions", "--host", "--allow", "a,b", "--allow", "require", "main.ts")
+        self.assertEqual((status, lines[1:-1]), (1, [self.LISTED[1], self.LISTED[4]]))
+        self.assertTrue(lines[0].endswith(" a b require"))
+        self.assertIn("a.js:2:59: .constructor may reach what makes code", self.lines("mentions", "--strict", "main.ts")[1])
+
+    def test_an_empty_list(self):
+        status, lines = self.lines("mentions", "quiet.ts")
+        self.assertEqual((status, len(lines)), (0, 3))
+        self.assertTrue(lines[1].startswith("nothing is mentioned: each name that the modules use at run time is declared"))
+        self.assertTrue(lines[2].startswith("not said: what a function does"))
+        self.assertEqual(self.lines("check", "--fail-on", "mention", "quiet.ts")[0], 0)
+
+    def test_what_is_not_read(self):
+        self.assertEqual(self.lines("mentions", "slip.ts")[1][1:-1], ["slip.ts:1:3: isn't read: the tokens are no program of the grammar at byte 2"])
+        self.assertEqual(self.lines("mentions", "typed.ts")[1][1:-1], ["typed.ts:1:19: \"./t\" leads to a declaration: the code isn't in the graph"])
+        self.assertEqual(self.lines("mentions", "data.ts")[1][1:-1], ["data:text/javascript,eval(1):1:1: eval is declared nowhere in the text, and isn't allowed"])
+        self.assertEqual(ran("mentions", "--kind", "types", "main.ts", cwd=self.room)[::2], (2, "joravelsu: a graph of types doesn't show what code mentions: --kind code does\n"))
+
+    def test_calls_of_require_that_are_edges(self):
+        self.assertNotIn(self.LISTED[3], self.lines("mentions", "--commonjs", "main.ts")[1])
+
+    def test_check(self):
+        status, lines = self.lines("check", "--fail-on", "unread,mention", "main.ts")
+        self.assertEqual([line for line in lines if line in self.LISTED], self.LISTED)
+        self.assertTrue(status == 1 and lines[-1].endswith("8 mentions; status 1"), lines[-1])
+        self.assertNotIn(self.LISTED[1], self.lines("check", "main.ts")[1])
+        value, whole = json.loads(ran("check", "--json", "--fail-on", "mention", "main.ts", cwd=self.room)[1]), schema("check.schema.json")
+        self.assertEqual(list(faults_of(value, whole, whole)), [])
+        self.assertEqual((value["found"], value["mentions"]["strict"], len(value["mentions"]["found"])), (["mention", "unread"], False, 8))
+        self.assertEqual(value["mentions"]["found"][1], {"specifier": "file:///a.js", "file": "a.js", "line": 1, "column": 31, "reason": "name", "text": "eval"})
+        results = json.loads(ran("check", "--sarif", "--fail-on", "mention", "main.ts", cwd=self.room)[1])["runs"][0]["results"]
+        self.assertEqual(sum(result["ruleId"] == "mention" and result["level"] == "error" for result in results), 8)
+
+    def test_of_a_bundle(self):
+        with open(os.path.join(self.room, "bundle.json"), "w", encoding="utf-8") as file:
+            json.dump({"roots": ["file:///a.js"], "modules": [{"specifier": "file:///a.js", "text": "eval(import(b))"}]}, file)
+        done = subprocess.run([os.path.join(TOOLS, "mentions"), "--allow", "b", os.path.join(self.room, "bundle.json")], capture_output=True, text=True, check=False, env={**os.environ, "JORAVELSU_QUIET": "1"})
+        self.assertEqual((done.returncode, done.stdout.splitlines()[1:-1]), (1, ["a.js:1:1: eval is declared nowhere in the text, and isn't allowed", "a.js:1:6: import(b) has no literal"]))
 
 
 class Vendor(unittest.TestCase):
@@ -308,13 +394,13 @@ class Options(unittest.TestCase):
 class Usage(unittest.TestCase):
     def test_versions(self):
         for words in (["./joravelsu", "--version"], ["./joravelsu", "check", "--version"], ["./joravelsu", "diff", "--version"], ["./graph_tool", "--version"], ["tools/build-library", "--version"],
-                      *([f"tools/{name}", "--version"] for name in ("pack", "explain", "summary", "graph-json", "picture", "unread", "check-bundle"))):
+                      *([f"tools/{name}", "--version"] for name in ("pack", "explain", "summary", "graph-json", "picture", "unread", "mentions", "check-bundle"))):
             done = subprocess.run(words, capture_output=True, text=True, cwd=ROOT, stdin=subprocess.DEVNULL, check=False)
             self.assertEqual((done.returncode, done.stderr), (0, ""), words)
             self.assertRegex(done.stdout, rf"^{re.escape(os.path.basename(words[0]))} {re.escape(kit.VERSION)} \(.*program.*\)\n$")
 
     def test_each_command_has_help(self):
-        for name in ("check", "graph", "unread", "why", "vendor", "imports", "diff", "man", "completions"):
+        for name in ("check", "graph", "unread", "why", "vendor", "imports", "diff", "mentions", "order", "man", "completions"):
             status, out, errors = ran(name, "--help")
             self.assertEqual((status, errors), (0, ""), name)
             self.assertIn(f"usage: joravelsu {name} ", out)
@@ -323,7 +409,7 @@ class Usage(unittest.TestCase):
         status, out, _ = ran("man")
         self.assertEqual(status, 0)
         self.assertTrue(out.startswith(".TH JORAVELSU 1 "))
-        for name in ("CHECK", "GRAPH", "UNREAD", "IMPORTS", "DIFF"):
+        for name in ("CHECK", "GRAPH", "UNREAD", "MENTIONS", "ORDER", "IMPORTS", "DIFF"):
             self.assertIn(f".SH {name}\n", out)
         self.assertIn("\\fB\\-\\-fail\\-on\\fR \\fIWORD,..\\fR\n", out)
         if shutil.which("mandoc") or shutil.which("groff"):

@@ -7,6 +7,7 @@ pub mod Answer
 pub mod Calls
 pub mod Rewrite
 pub mod Exports
+pub mod Mentions
 pub mod Build
 pub mod Owned
 pub mod Graph

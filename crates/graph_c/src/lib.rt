@@ -8,11 +8,13 @@
 //!   change can't be made, or why it has no sites (`AnswersRewrite`, `specs/Rewrite.antt`).
 //! - `joravelsu_exports(text, media_type, common_js)`: the names that a source exports, and the modules whose names it exports
 //!   again, or why it isn't read (`AnswersExports`, `specs/Exports.antt`).
+//! - `joravelsu_mentions(text, media_type, allowed, strict)`: what a source mentions that a graph of its modules doesn't show, or
+//!   why it isn't read (`AnswersMentions`, `specs/Mentions.antt`).
 //! - `joravelsu_graph_new`, `_poll`, `_wanted`, `_answer`, `_entry`, `_place`, `_free`: a graph whose loads the caller does,
 //!   behind a handle (`specs/Graph.antt`).
 //! - `joravelsu_version()`: the version of the library.
 //!
-//! The first five write into buffers of the caller's, all or nothing, and tell what they must hold. They keep no state. A
+//! The first six write into buffers of the caller's, all or nothing, and tell what they must hold. They keep no state. A
 //! call fails besides only where memory runs out.
 //! Not promised: the place of a syntax error, and when memory runs out.
 #![tactic(auto)]
@@ -23,6 +25,7 @@ ghost use Rattle.graph_c.specs.Answer.{AnswersSites};
 ghost use Rattle.graph_c.specs.Calls.{AnswersCalls};
 ghost use Rattle.graph_c.specs.Rewrite.{AnswersRewrite};
 ghost use Rattle.graph_c.specs.Exports.{AnswersExports};
+ghost use Rattle.graph_c.specs.Mentions.{AnswersMentions};
 ghost use Rattle.graph_c.specs.Graph.{News, AtPoll, AtWanted, AtAnswer, AtEntry, AtPlace};
 ghost use Rattle.std.specs.Prelude.{None};
 
@@ -36,6 +39,8 @@ mod graph;
 mod handle;
 mod held;
 mod media_types;
+mod mentioning;
+mod mentions;
 mod rewrite;
 mod room;
 mod text;
@@ -46,6 +51,7 @@ use crate::build::build_report;
 use crate::calls::{CallsAnswer, SourceCall, answer_calls};
 use crate::exports::{ExportsAnswer, SourceName, answer_exports};
 use crate::graph::Graph;
+use crate::mentions::{MentionsAnswer, SourceMention, answer_mentions};
 use crate::rewrite::{RewriteAnswer, answer_rewrite};
 use graph_session::{EdgeRecord, EntryRecord, PlaceRecord, Wanted};
 use specifier_edits::records::SourceChange;
@@ -117,6 +123,31 @@ pub extern "C" fn joravelsu_rewrite(
     ensures { AnswersRewrite media_type text.now changes.now values.now room.old room.new answer.new result }
 {
     answer_rewrite(alloc, text, media_type, changes, values, room, answer)
+}
+
+/// Finds what a source mentions that a graph of its modules doesn't show, by the names that are allowed, a line each, and
+/// writes a record for each; more where `strict` isn't 0.
+#[unsafe(no_mangle)]
+pub extern "C" fn joravelsu_mentions(
+    alloc: Global,
+    text: &[u8],
+    media_type: u32,
+    allowed: &[u8],
+    strict: u32,
+    mentions: &mut [SourceMention],
+    answer: &mut MentionsAnswer,
+) -> u32
+    ensures { AnswersMentions allowed.now (not (nat_eq strict 0)) media_type text.now mentions.old mentions.new answer.new result }
+{
+    answer_mentions(
+        alloc,
+        text,
+        media_type,
+        allowed,
+        strict != 0,
+        mentions,
+        answer,
+    )
 }
 
 /// Finds the names that a source exports, and the modules whose names it exports again, and writes a record for each, and

@@ -138,6 +138,37 @@ static napi_value unread(napi_env env, napi_callback_info info)
     return status == JORAVELSU_DONE ? list : refused(env, status, answer.place, 0);
 }
 
+/* mentions(text, mediaType, allowed, strict): a list of numbers, three for each mention, or why there is none. */
+static napi_value mentions(napi_env env, napi_callback_info info)
+{
+    size_t count = 4, length, allowed_length, room = 64;
+    uint32_t media_type, strict, status = JORAVELSU_NO_ROOM;
+    napi_value words[4], list = NULL;
+    const uint8_t *text, *allowed;
+    joravelsu_mentions_answer answer = {0};
+    TRY(napi_get_cb_info(env, info, &count, words, NULL, NULL));
+    TRY(bytes_of(env, words[0], &text, &length));
+    TRY(napi_get_value_uint32(env, words[1], &media_type));
+    TRY(bytes_of(env, words[2], &allowed, &allowed_length));
+    TRY(napi_get_value_uint32(env, words[3], &strict));
+    while (status == JORAVELSU_NO_ROOM) {
+        joravelsu_mention *found = calloc(room + 1, sizeof *found);
+        status = found ? joravelsu_mentions(text, length, media_type, allowed, allowed_length, strict, found, room, &answer) : JORAVELSU_NO_MEMORY;
+        room = answer.mentions;
+        napi_status made = status == JORAVELSU_DONE ? napi_create_array(env, &list) : napi_ok;
+        for (size_t i = 0; status == JORAVELSU_DONE && made == napi_ok && i < 3 * answer.mentions; i++) {
+            const joravelsu_mention *it = &found[i / 3];
+            napi_value number;
+            made = napi_create_double(env, i % 3 == 0 ? it->reason : i % 3 == 1 ? (double)it->start : (double)it->end, &number);
+            if (made == napi_ok)
+                made = napi_set_element(env, list, (uint32_t)i, number);
+        }
+        free(found);
+        TRY(made);
+    }
+    return status == JORAVELSU_DONE ? list : refused(env, status, answer.place, 0);
+}
+
 /* rewrite(text, mediaType, changes, values): changes are three numbers each. The new text, or why there is none. */
 static napi_value rewrite(napi_env env, napi_callback_info info)
 {
@@ -479,6 +510,7 @@ NAPI_MODULE_INIT()
     const napi_property_descriptor calls[] = {
         {"sites", NULL, sites, NULL, NULL, NULL, napi_default, NULL},
         {"unread", NULL, unread, NULL, NULL, NULL, napi_default, NULL},
+        {"mentions", NULL, mentions, NULL, NULL, NULL, napi_default, NULL},
         {"rewrite", NULL, rewrite, NULL, NULL, NULL, napi_default, NULL},
         {"exports", NULL, exports_of, NULL, NULL, NULL, napi_default, NULL},
         {"report", NULL, report, NULL, NULL, NULL, napi_default, NULL},

@@ -27,6 +27,13 @@ export interface Call {
   end: number;
 }
 
+/** Something that a source mentions and a graph doesn't show; the last three reasons if `strict`. */
+export interface Mention {
+  reason: "name" | "import" | "meta" | "with" | "member" | "key" | "this";
+  start: number;
+  end: number;
+}
+
 export interface Exports {
   names: string[];
   /** The modules whose names are exported again. */
@@ -74,6 +81,18 @@ export function sites(text: string | Uint8Array, mediaType: MediaType): Site[];
  * @example unread("import(a); require('b');").length // 2
  */
 export function unread(text: string | Uint8Array): Call[];
+
+/**
+ * What a source mentions that a graph doesn't show, in the order of the text: names that it doesn't declare and that aren't allowed,
+ * import() of no literal, import.meta, with.
+ * @example mentions("eval(Math)", "Mjs", ["Math"]) // [{ reason: "name", start: 0, end: 4 }]
+ */
+export function mentions(
+  text: string | Uint8Array,
+  mediaType: MediaType,
+  allowed: Iterable<string>,
+  options?: { strict?: boolean },
+): Mention[];
 
 /**
  * The source with other specifiers at some of its sites, by their numbers in `sites`, from 0.

@@ -8,6 +8,7 @@ const KINDS = [
   "import-source", "import-defer", "dynamic-source", "dynamic-defer", "require", "require-resolve", "type-import", "worker", "address",
 ];
 const CALLS = ["import", "require"];
+const MENTIONS = ["name", "import", "meta", "with", "member", "key", "this"];
 const REASONS = {
   6: "the text is over 16 MiB",
   7: "the text is no UTF-8",
@@ -90,6 +91,16 @@ function unread(text) {
     calls.push({ kind: CALLS[numbers[i]], start: numbers[i + 1], end: numbers[i + 2] });
   }
   return calls;
+}
+
+function mentions(text, mediaType, allowed, { strict = false } = {}) {
+  const names = Buffer.from([...allowed].join("\n"), "utf8");
+  const numbers = done(addon.mentions(bytesOf(text), mediaTypeOf(mediaType), names, Number(strict)));
+  const found = [];
+  for (let i = 0; i < numbers.length; i += 3) {
+    found.push({ reason: MENTIONS[numbers[i]], start: numbers[i + 1], end: numbers[i + 2] });
+  }
+  return found;
 }
 
 function rewrite(text, mediaType, specifiers) {
@@ -280,6 +291,6 @@ function version() {
 }
 
 module.exports = {
-  sites, unread, rewrite, exports: exportsOf, build, report, version,
+  sites, unread, mentions, rewrite, exports: exportsOf, build, report, version,
   Builder, Graph, SourceError, ChangeError, BundleError, AnswerError, TooManyModules,
 };

@@ -4,6 +4,8 @@
     [Site(kind='import', type_only=False, start=7, end=15, value='./b.ts', attribute=None)]
     >>> unread_in("import(a); require('b');")
     [Call(kind='import', start=0, end=9), Call(kind='require', start=11, end=23)]
+    >>> mentions_in("let a = Math; eval(a)", MJS, ECMASCRIPT)
+    [Mention(reason='name', start=14, end=18)]
     >>> rewrite('import "./b.ts"; import("./c.ts");', TYPESCRIPT, {0: "./lib/b.ts"})
     'import "./lib/b.ts"; import("./c.ts");'
     >>> exports_of('export const a = 1; export * from "./b.js";', MJS)
@@ -25,11 +27,27 @@ from typing import Any, Awaitable, Callable, Iterator, NamedTuple, Sequence, Uni
 
 DTS, DMTS, DCTS, TYPESCRIPT, MTS, CTS, TSX, JAVASCRIPT, MJS, CJS, JSX, JSON, WASM = range(13)
 
+# Names for mentions_in: the globals of ECMA-262 and its annex B without Function, eval and globalThis; and names of hosts that load
+# nothing. setTimeout and setInterval aren't among them, since they take a text in browsers; nor are fetch and WebAssembly.
+ECMASCRIPT = tuple("""
+AggregateError Array ArrayBuffer AsyncDisposableStack Atomics BigInt BigInt64Array BigUint64Array Boolean DataView
+Date DisposableStack Error EvalError FinalizationRegistry Float16Array Float32Array Float64Array Infinity Int16Array
+Int32Array Int8Array Iterator JSON Map Math NaN Number Object Promise Proxy RangeError ReferenceError Reflect RegExp
+Set SharedArrayBuffer String SuppressedError Symbol SyntaxError TypeError URIError Uint16Array Uint32Array Uint8Array
+Uint8ClampedArray WeakMap WeakRef WeakSet decodeURI decodeURIComponent encodeURI encodeURIComponent escape isFinite
+isNaN parseFloat parseInt undefined unescape
+""".split())
+HOST = tuple("""
+AbortController AbortSignal Buffer Event EventTarget Intl TextDecoder TextEncoder URL URLSearchParams atob btoa
+clearInterval clearTimeout console crypto performance queueMicrotask structuredClone
+""".split())
+
 _DONE, _BAD_BUNDLE, _NO_ROOM, _NO_MEMORY = 0, 2, 4, 5
 _KINDS = ("import", "export", "import-equals", "dynamic", "reference-path", "reference-types", "wasm", "referrer",
           "import-source", "import-defer", "dynamic-source", "dynamic-defer", "require",
           "require-resolve", "type-import", "worker", "address")
 _CALLS = ("import", "require")
+_MENTIONS = ("name", "import", "meta", "with", "member", "key", "this")
 _NO_UTF8, _NAMED = 7, 2
 _REASONS = {
     6: "the text is over 16 MiB",
@@ -73,6 +91,14 @@ class Site(NamedTuple):
     """The literal's value."""
     attribute: str | Unknown | None
     """The import attribute `type`; None where there is none, and UNKNOWN where the text doesn't say."""
+
+
+class Mention(NamedTuple):
+    """Something that a source mentions and a graph doesn't show. reason: name, import, meta, with; if strict also member, key, this."""
+
+    reason: str
+    start: int
+    end: int
 
 
 class Call(NamedTuple):
@@ -154,6 +180,14 @@ class _Call(ctypes.Structure):
 
 class _UnreadAnswer(ctypes.Structure):
     _fields_ = [("calls", ctypes.c_size_t), ("fault", ctypes.c_uint32), ("place", ctypes.c_size_t)]
+
+
+class _Mention(ctypes.Structure):
+    _fields_ = [("reason", ctypes.c_uint32), ("start", ctypes.c_size_t), ("end", ctypes.c_size_t)]
+
+
+class _MentionsAnswer(ctypes.Structure):
+    _fields_ = [("mentions", ctypes.c_size_t), ("fault", ctypes.c_uint32), ("place", ctypes.c_size_t)]
 
 
 class _Change(ctypes.Structure):
@@ -244,6 +278,9 @@ def _load() -> ctypes.CDLL:
     library.joravelsu_sites.restype = ctypes.c_uint32
     library.joravelsu_unread.argtypes = [text, size, ctypes.POINTER(_Call), size, ctypes.POINTER(_UnreadAnswer)]
     library.joravelsu_unread.restype = ctypes.c_uint32
+    mentions = [ctypes.POINTER(_Mention), size, ctypes.POINTER(_MentionsAnswer)]
+    library.joravelsu_mentions.argtypes = [text, size, ctypes.c_uint32, text, size, ctypes.c_uint32, *mentions]
+    library.joravelsu_mentions.restype = ctypes.c_uint32
     changes = [ctypes.POINTER(_Change), size, text, size]
     library.joravelsu_rewrite.argtypes = [text, size, ctypes.c_uint32, *changes, text, size, ctypes.POINTER(_RewriteAnswer)]
     library.joravelsu_rewrite.restype = ctypes.c_uint32
@@ -350,6 +387,26 @@ def unread_in(text: str | bytes) -> list[Call]:
         if status != _NO_ROOM:
             raise _refused(status, answer.place)
         length = answer.calls
+
+
+def mentions_in(text: str | bytes, media_type: int, allowed: Sequence[str], strict: bool = False) -> list[Mention]:
+    """What the source mentions that a graph doesn't show, in the order of the text: names that it doesn't declare and that aren't
+    allowed, import() of no literal, import.meta, with. Raises SourceError where it has no tree. Places are those of imports_of.
+    """
+    source = text.encode() if isinstance(text, str) else bytes(text)
+    names = "\n".join(allowed).encode()
+    answer = _MentionsAnswer()
+    length = 64
+    while True:
+        found = (_Mention * length)()
+        status = _library.joravelsu_mentions(source, len(source), media_type, names, len(names), int(strict), found, length, ctypes.byref(answer))
+        if status == _NO_MEMORY:
+            raise MemoryError
+        if status == _DONE:
+            return [Mention(_MENTIONS[it.reason], it.start, it.end) for it in found[: answer.mentions]]
+        if status != _NO_ROOM:
+            raise _refused(status, answer.place)
+        length = answer.mentions
 
 
 def rewrite(text: str | bytes, media_type: int, specifiers: dict[int, str]) -> str:

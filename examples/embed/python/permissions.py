@@ -1,9 +1,10 @@
 #!/usr/bin/env python3
 """What sources may load that isn't allowed: permissions.py PREFIX.. -- FILE..
 
-A specifier is allowed if it begins by one of the prefixes. Each line is FILE:BYTE: KIND "SPECIFIER" of one that isn't, or
-FILE:BYTE: unread and the call, which may load a module that no text names; or why a file isn't read. The exit status is 1 if
-there is a line.
+A specifier is allowed if it begins by one of the prefixes. Each line is FILE:BYTE: KIND "SPECIFIER" of one that isn't; or
+FILE:BYTE: mentions and what no specifier shows: a name that the text doesn't declare and that is no usual one, such as eval, an
+import() of no literal, import.meta or with; or why a file isn't read. The exit status is 1 if there is a line. What an empty
+list doesn't say is in docs/TOOLS.md, "mentions".
 """
 import os
 import sys
@@ -21,7 +22,8 @@ def refusals(text, media_type, allowed):
              if not site.type_only and not site.value.startswith(tuple(allowed))]
     # Places count from the byte after a byte order mark.
     read = text[len(MARK):] if text.startswith(MARK) else text
-    found += [(call.start, f"unread {read[call.start:call.end].decode()}") for call in joravelsu.unread_in(text)]
+    names = (*joravelsu.ECMASCRIPT, *joravelsu.HOST)
+    found += [(it.start, f"mentions {read[it.start:it.end].decode()}") for it in joravelsu.mentions_in(text, media_type, names)]
     return sorted(found)
 
 

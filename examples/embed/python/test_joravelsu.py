@@ -151,6 +151,35 @@ class Sites(unittest.TestCase):
         self.assertEqual(raw_sites(text, joravelsu.MJS, 1, 6)[:2], (0, (1, 6, 0, 0)))
 
 
+class Mentions(unittest.TestCase):
+    def test_of_a_text(self):
+        text = '\ufeffimport a from "a"; import(a); a(Math, eval, import.meta, "ö"); new URL("b", import.meta.url); a.constructor; function f(b = c) { var c }'
+        bare = text[1:].encode()
+        rows = [(False, ["import import(a)", "name eval", "meta import.meta", "name c"]), (True, ["import import(a)", "name eval", "meta import.meta", "member .constructor", "name c"])]
+        for strict, wanted in rows:
+            found = joravelsu.mentions_in(text, joravelsu.MJS, (*joravelsu.ECMASCRIPT, *joravelsu.HOST), strict)
+            self.assertEqual([f"{it.reason} {bare[it.start : it.end].decode()}" for it in found], wanted)
+
+    def test_allowed(self):
+        for names, wanted in (((), ["name", "name"]), (("a",), ["name"]), (("a", "ö"), []), (("a ö",), ["name", "name"])):
+            self.assertEqual([it.reason for it in joravelsu.mentions_in("a; ö", joravelsu.MJS, names)], wanted)
+
+    def test_reasons(self):
+        rows = [(joravelsu.CJS, "with (a) this.b", ["with", "name", "this"]), (joravelsu.MJS, "({})[1 + 1]", ["key"]), (joravelsu.TYPESCRIPT, "interface Function {} new Function()", ["name"])]
+        for media_type, text, wanted in rows:
+            self.assertEqual([it.reason for it in joravelsu.mentions_in(text, media_type, (), True)][: len(wanted)], wanted, text)
+
+    def test_more_than_the_first_buffer_holds(self):
+        self.assertEqual(len(joravelsu.mentions_in("a;" * 1000, joravelsu.MJS, ())), 1000)
+
+    def test_refusals(self):
+        rows = [(b"ab\xff", 3, 7, 2), (b" " * ((1 << 24) + 1), 3, 6, None), (b'require("a', 3, 10, 8), (b"1 = 2", 3, 11, 0), (b"{}", joravelsu.JSON, 9, None), (b"", 99, 8, None)]
+        for text, media_type, status, place in rows:
+            with self.assertRaises(joravelsu.SourceError) as caught:
+                joravelsu.mentions_in(text, media_type, ())
+            self.assertEqual((caught.exception.status, caught.exception.place), (status, place))
+
+
 class Calls(unittest.TestCase):
     def test_of_a_text(self):
         text = '\ufeffimport "a"; import("b"); import(c + "ö"); require("d"); a.require("e"); class A { require(f) { } }'

@@ -3,7 +3,7 @@ const assert = require("node:assert/strict");
 const { test } = require("node:test");
 const joravelsu = require("..");
 
-const { sites, unread, rewrite, build, report, version, Builder } = joravelsu;
+const { sites, unread, mentions, rewrite, build, report, version, Builder } = joravelsu;
 const { SourceError, ChangeError, BundleError, AnswerError, TooManyModules } = joravelsu;
 
 test("sites", () => {
@@ -41,6 +41,16 @@ test("unread", () => {
     { kind: "require", start: 11, end: 23 },
   ]);
   assert.equal(unread("require(a);".repeat(200)).length, 200);
+});
+
+test("mentions", () => {
+  assert.deepEqual(mentions("eval(Math); import(a)", "Mjs", ["Math", "a"]), [
+    { reason: "name", start: 0, end: 4 },
+    { reason: "import", start: 12, end: 21 },
+  ]);
+  assert.deepEqual(mentions("with (a) this.b", "Cjs", new Set(["a"]), { strict: true }).map((it) => it.reason), ["with", "this"]);
+  assert.equal(mentions("a;".repeat(200), "Mjs", []).length, 200);
+  assert.throws(() => mentions("1 = 2", "Mjs", []), (e) => e instanceof SourceError && e.status === 11);
 });
 
 test("rewrite", () => {
