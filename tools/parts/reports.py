@@ -24,17 +24,22 @@ class Reports:
         name = zlib.crc32(repr((self.records.known, settings["roots"], settings.get("kind"))).encode())
         path = os.path.join(kit.KEPT, f"graph-{name:08x}.report")
         known, report = loaded(path)
-        now = sum_of(settings, modules, key_of)
+        now = self.sum_of(settings, modules, key_of)
         if known == now:
             return 0, report
         changed = [module for module in modules if old_key_of(module) != key_of(module)]
-        if len(changed) <= MOST_CHANGED and known == sum_of(settings, modules, old_key_of) and all(map(self.has_same_sites, changed)):
+        if len(changed) <= MOST_CHANGED and known == self.sum_of(settings, modules, old_key_of) and all(map(self.has_same_sites, changed)):
             status, report = 0, self.with_places(report.decode(), changed).encode()
         else:
             status, report = build(settings, modules)
         if status == 0:
             kit.keep_data(path, now.encode() + b"\n" + report, MOST_KEPT)
         return status, report
+
+    def sum_of(self, settings, modules, key):
+        """A checksum of all on which a report depends, by the keys of the texts."""
+        told = json.dumps([self.records.known, settings]) + "".join(f"\n{module['specifier']} {key(module)}" for module in modules)
+        return hashlib.blake2b(told.encode("utf-8", "surrogatepass"), digest_size=20).hexdigest()
 
     def has_same_sites(self, module):
         return "row" in module and self.signature(module, module["was"]) == self.signature(module, module["row"])
@@ -83,11 +88,6 @@ def key_of(module):
 def old_key_of(module):
     """What said it when the records were written."""
     return module["was"][0] if "was" in module else key_of(module)
-
-
-def sum_of(settings, modules, key):
-    told = json.dumps(settings) + "".join(f"\n{module['specifier']} {key(module)}" for module in modules)
-    return hashlib.blake2b(told.encode("utf-8", "surrogatepass"), digest_size=20).hexdigest()
 
 
 def loaded(path):
