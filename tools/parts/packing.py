@@ -99,13 +99,16 @@ class Resolver:
 
     def lead(self, place, site, ways=None):
         """Where a site of a file leads."""
-        ways = ways or self.ways
+        folder, ways = folder_of(place), ways or self.ways
+        found = self.direct(folder, site.value, ways)
+        if found:
+            return found
         if self.commonjs and site.kind in sites.REQUIRES:
             ways = ways.of_require()
         reference = site.kind if site.kind.startswith("reference-") else None
-        key = folder_of(place), site.value, reference, ways.types_first, ways.requires
+        key = folder, site.value, reference, ways.types_first, ways.requires
         if key not in self.known:
-            self.known[key] = self.direct(key[0], site.value, ways) or self.found(place, site.value, reference, ways)
+            self.known[key] = self.found(place, site.value, reference, ways)
         return self.known[key]
 
     def direct(self, folder, specifier, ways):

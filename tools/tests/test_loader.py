@@ -153,11 +153,17 @@ class Watch(Loader):
                     if text is None:
                         os.remove(os.path.join(self.room, path))
                     else:
-                        self.put({path: text})
+                        self.put_at_once(path, text)
                     self.assertEqual((watching.stderr.readline(), self.verdict(watching)), (f"joravelsu: {changed}\n", verdict))
                 watching.terminate()
                 self.assertEqual((watching.wait(), watching.stderr.readline()), (130, "joravelsu: stopped\n"))
                 os.remove(os.path.join(self.room, "src", "c.ts"))
+
+    def put_at_once(self, path, text):
+        """Writes a file of which no part is seen before all of it is there."""
+        with tempfile.NamedTemporaryFile("w", delete=False) as file:
+            file.write(text)
+        os.replace(file.name, os.path.join(self.room, path))
 
     def verdict(self, watching):
         """What one run ends with; after it all is watched."""

@@ -240,6 +240,9 @@ class _Entry(ctypes.Structure):
     ]
 
 
+_ENTRY = struct.Struct("@IIINNNNNNN")
+
+
 class _Edge(ctypes.Structure):
     _fields_ = [
         ("kind", ctypes.c_uint32),
@@ -316,18 +319,6 @@ def _refused(status: int, place: int) -> SourceError:
     return SourceError(status, place if status == _NO_UTF8 or status >= 10 else None)
 
 
-class _Texts:
-    """Texts in one buffer, each by its bytes."""
-
-    def __init__(self, buffer: Any, length: int):
-        self.held = ctypes.string_at(buffer, length)
-        self.text = self.held.decode()
-        self.is_ascii = len(self.text) == length
-
-    def __call__(self, start: int, end: int) -> str:
-        return self.text[start:end] if self.is_ascii else self.held[start:end].decode()
-
-
 class _Room(threading.local):
     """The buffers for the sites of a text, of each thread its own; they are kept between calls."""
 
@@ -341,12 +332,14 @@ class _Room(threading.local):
 _room = _Room()
 
 
-def _sites_in(room: _Room, answer: _Answer) -> Iterator[Site]:
-    text = _Texts(room.values, answer.value_bytes)
+def _sites_in(room: _Room, answer: _Answer) -> list[Site]:
+    text = ctypes.string_at(room.values, answer.value_bytes)
     records = ctypes.string_at(room.sites, answer.sites * _SITE.size)
-    for kind, type_only, start, end, value_start, value_end, has, attribute_start, attribute_end in _SITE.iter_unpack(records):
-        attribute = text(attribute_start, attribute_end) if has == _NAMED else UNKNOWN if has else None
-        yield Site(_KINDS[kind], type_only, start, end, text(value_start, value_end), attribute)
+    return [
+        Site(_KINDS[kind], type_only, start, end, text[value_start:value_end].decode(),
+             text[attribute_start:attribute_end].decode() if has == _NAMED else UNKNOWN if has else None)
+        for kind, type_only, start, end, value_start, value_end, has, attribute_start, attribute_end in _SITE.iter_unpack(records)
+    ]
 
 
 def imports_of(text: str | bytes, media_type: int) -> list[Site]:
@@ -363,7 +356,7 @@ def imports_of(text: str | bytes, media_type: int) -> list[Site]:
         if status == _NO_MEMORY:
             raise MemoryError
         if status == _DONE:
-            return list(_sites_in(room, answer))
+            return _sites_in(room, answer)
         if status != _NO_ROOM:
             raise _refused(status, answer.place)
         room.resize(max(answer.sites, len(room.sites)), max(answer.value_bytes, len(room.values)))
@@ -458,8 +451,8 @@ def exports_of(text: str | bytes, media_type: int, common_js: bool = False) -> E
         if status == _NO_MEMORY:
             raise MemoryError
         if status == _DONE:
-            text = _Texts(values, answer.value_bytes)
-            told = [text(it.start, it.end) for it in names[: answer.exports + answer.reexports]]
+            text = ctypes.string_at(values, answer.value_bytes)
+            told = [text[it.start:it.end].decode() for it in names[: answer.exports + answer.reexports]]
             return Exports(told[: answer.exports], told[answer.exports :])
         if status != _NO_ROOM:
             raise _refused(status, answer.place)
@@ -654,19 +647,17 @@ class Builder:
 
     def answer(self, number: int, answer: Answer) -> None:
         """Answers the request with this number. Raises AnswerError if it wasn't made, or was answered before."""
-        if answer is None:
-            answer = ABSENT
-        if isinstance(answer, str):
-            answer = answer.encode()
-        if isinstance(answer, (bytes, bytearray, memoryview)):
-            answer = Content(bytes(answer))
         body, content_type, kind = b"", b"", 0
-        if isinstance(answer, Content):
+        if isinstance(answer, (bytes, bytearray, memoryview)):
+            body = bytes(answer)
+        elif isinstance(answer, str):
+            body = answer.encode()
+        elif isinstance(answer, Content):
             body, content_type = answer.body, answer.content_type.encode()
         elif isinstance(answer, Redirect):
             body, kind = answer.to.encode(), 1
         else:
-            kind = answer.kind
+            kind = ABSENT.kind if answer is None else answer.kind
         status = _library.joravelsu_graph_answer(self._handle, number, kind, body, len(body), content_type, len(content_type))
         if status == _NO_MEMORY:
             raise MemoryError
@@ -686,7 +677,7 @@ class Builder:
                 continue
             if status != _DONE:
                 raise IndexError(number)
-            return _entry_of(number, told, edges, _Texts(texts, told.text_bytes))
+            return _entry_of(number, told, edges, ctypes.string_at(texts, told.text_bytes))
 
     def place(self, number: int, byte: int) -> tuple[int, int]:
         """Line and column, from 1, of a byte in the text of the module with this number: columns count characters."""
@@ -699,24 +690,21 @@ class Builder:
         return shown.line, shown.column
 
 
-def _number(number: int) -> int | None:
-    return None if number == _NONE else number
+def _edges_in(records: bytes, text: bytes) -> list[Edge]:
+    return [
+        Edge(_KINDS[kind], type_only, start, end, text[value_start:value_end].decode(),
+             text[value_end:attribute_end].decode() if has == _NAMED else UNKNOWN if has else None,
+             None if target == _NONE else target, text[attribute_end:target_end].decode() or None, _EDGE_FAULTS[fault])
+        for kind, type_only, start, end, value_start, value_end, has, attribute_end, target_end, target, fault in _EDGE.iter_unpack(records)
+    ]
 
 
-def _edges_in(records: bytes, text: _Texts) -> Iterator[Edge]:
-    for kind, type_only, start, end, value_start, value_end, has, attribute_end, target_end, target, fault in _EDGE.iter_unpack(records):
-        attribute = text(value_end, attribute_end) if has == _NAMED else UNKNOWN if has else None
-        yield Edge(_KINDS[kind], type_only, start, end, text(value_start, value_end), attribute,
-                   None if target == _NONE else target, text(attribute_end, target_end) or None, _EDGE_FAULTS[fault])
-
-
-def _entry_of(number: int, told: _Entry, edges: Any, text: _Texts) -> Entry:
-    fault = _FAULTS[told.fault]
-    records = ctypes.string_at(edges, told.edges * _EDGE.size)
+def _entry_of(number: int, told: _Entry, edges: Any, text: bytes) -> Entry:
+    state, media_type, fault, place, size, specifier_end, target_end, target, count, _ = _ENTRY.unpack_from(told)
     return Entry(
-        number, text(0, told.specifier_end), _STATES[told.state], _MEDIA_TYPES[told.media_type], told.size,
-        _number(told.target), text(told.specifier_end, told.target_end) or None, fault,
-        told.place if fault == "Parse" else None, list(_edges_in(records, text)),
+        number, text[:specifier_end].decode(), _STATES[state], _MEDIA_TYPES[media_type], size, None if target == _NONE else target,
+        text[specifier_end:target_end].decode() or None, _FAULTS[fault], place if _FAULTS[fault] == "Parse" else None,
+        _edges_in(ctypes.string_at(edges, count * _EDGE.size), text),
     )
 
 
