@@ -1,5 +1,6 @@
 //! What becomes of the source of a row.
 
+use crate::parsed::of_parsed;
 use media_type::MediaType;
 use source_sites::read_sites;
 use source_text::SourceText;
@@ -20,6 +21,9 @@ pub fn answer(alloc: Global, row: &Row) -> Result<String, AllocError> {
 fn answer_at(alloc: Global, row: &Row, specifier: &Url) -> Result<String, AllocError> {
     let media_type = MediaType::from_specifier(alloc, specifier)?;
     let text = SourceText::from_string(String::from_str(alloc, row.at(2))?)?;
+    if row.call() == "parsed" {
+        return of_parsed(alloc, row, specifier, media_type, text);
+    }
     if row.call() == "fault" {
         return told_fault(alloc, row, specifier, media_type, &text);
     }
@@ -81,7 +85,8 @@ fn word_of(fault: ChangeFault) -> &'static str {
     }
 }
 
-fn changes_of(alloc: Global, row: &Row) -> Result<Vec<(usize, String)>, AllocError> {
+/// The changes of a row.
+pub fn changes_of(alloc: Global, row: &Row) -> Result<Vec<(usize, String)>, AllocError> {
     let mut changes = Vec::new(alloc);
     let mut at = 4usize;
     for _ in 0..row.number(3) {

@@ -3,6 +3,7 @@
 #![tactic(auto)]
 
 mod answer;
+mod parsed;
 
 use crate::answer::answer;
 use std::io::Read;
