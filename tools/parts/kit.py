@@ -39,9 +39,8 @@ class NoKit(NoGraph):
 
 def kit():
     """The folder of the toolchain."""
-    import shutil
-
-    command = shutil.which("rt")
+    commands = (os.path.join(folder, "rt") for folder in os.get_exec_path())
+    command = next((path for path in commands if os.path.isfile(path) and os.access(path, os.X_OK)), None)
     if not command:
         raise NoKit("the toolchain's command rt isn't on the path")
     return os.path.dirname(os.path.dirname(os.path.realpath(command)))

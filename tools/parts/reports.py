@@ -11,7 +11,7 @@ from parts import kit, outlines
 # Of so many texts that have changed the places are put anew; of more the graph is built.
 MOST_CHANGED = 100
 MOST_KEPT = 16
-EDGE = re.compile(r"(  \S+ )(\d+-\d+)( .*)")
+EDGE = r"(  \S+ )(\d+-\d+)( .*)"
 
 
 class Reports:
@@ -59,7 +59,7 @@ class Reports:
                 lines = block_at(report, start)
                 spans = {old: new for old, new in zip(*(self.spans(module, module[key]) for key in ("was", "row")))}
                 made = [f"{lines[0].rpartition(' ')[0]} {outlines.size_of_row(module['row'])}"]
-                made += [EDGE.sub(lambda found: f"{found[1]}{spans[found[2]]}{found[3]}", line) for line in lines[1:]]
+                made += [re.sub(EDGE, lambda found: f"{found[1]}{spans[found[2]]}{found[3]}", line) for line in lines[1:]]
                 report = report[:start] + "\n".join(made) + report[start + len("\n".join(lines)):]
         return report
 

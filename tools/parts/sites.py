@@ -20,7 +20,7 @@ PART = 4_000_000
 MOST_NAMES = 100_000
 # What likely names a module; only to read ahead, so that few calls are needed.
 NAMED = r"""[\s(]{0,20}(?:"([^"\\\n]{1,500})"|'([^'\\\n]{1,500})')"""
-HINT, HINT_OR_CALL = re.compile(r"\b(?:from|import)" + NAMED), re.compile(r"\b(?:from|import|require)" + NAMED)
+HINT, HINT_OR_CALL = r"\b(?:from|import)" + NAMED, r"\b(?:from|import|require)" + NAMED
 
 Site = collections.namedtuple("Site", "kind value")
 Site.__doc__ = "kind: as the report has it, as import-type. value: the text of the specifier."
@@ -41,7 +41,7 @@ def is_typescript(place):
 
 
 def hints_in(text, has_calls=False):
-    return list(dict.fromkeys(found[1] or found[2] for found in (HINT_OR_CALL if has_calls else HINT).finditer(text)))
+    return list(dict.fromkeys(found[1] or found[2] for found in re.finditer(HINT_OR_CALL if has_calls else HINT, text)))
 
 
 def ending_of(place):

@@ -68,9 +68,9 @@ def has_colours(stream):
 
 BOLD, RED, GREEN = "\033[1m", "\033[31m", "\033[32m"
 COLOURS = (
-    (re.compile(r"(?m)^(\S.*?:\d+:\d+:)(?= )"), BOLD), (re.compile(r"(?m)^ +(\^~*)$"), RED),
-    (re.compile(r"(?m)^(no faults.*; status 0)$"), GREEN), (re.compile(r"(?m)^(.*; status 1)$"), RED),
-    (re.compile(r"(?m)^((?:missing|not read|other faults|cycles): [\d,]+)$"), RED),
+    (r"(?m)^(\S.*?:\d+:\d+:)(?= )", BOLD), (r"(?m)^ +(\^~*)$", RED),
+    (r"(?m)^(no faults.*; status 0)$", GREEN), (r"(?m)^(.*; status 1)$", RED),
+    (r"(?m)^((?:missing|not read|other faults|cycles): [\d,]+)$", RED),
 )
 
 
@@ -78,7 +78,7 @@ def coloured(data):
     """Lines of a check with colours: places bold, carets and what is wrong red."""
     text = data.decode("utf-8")
     for pattern, colour in COLOURS:
-        text = pattern.sub(lambda found, colour=colour: found[0].replace(found[1], f"{colour}{found[1]}\033[0m", 1), text)
+        text = re.sub(pattern, lambda found, colour=colour: found[0].replace(found[1], f"{colour}{found[1]}\033[0m", 1), text)
     return text.encode("utf-8")
 
 
