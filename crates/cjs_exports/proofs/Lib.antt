@@ -1,3 +1,1 @@
 pub mod names_lemmas
--- whole programs
-pub mod WholeForms

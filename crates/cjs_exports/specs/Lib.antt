@@ -1,3 +1,1 @@
 pub mod names
--- whole programs
-pub mod Whole

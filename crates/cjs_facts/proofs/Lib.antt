@@ -1,4 +1,3 @@
-pub mod tasks_lemmas
 -- lists
 pub mod ListLemmas
 -- the facts of each form

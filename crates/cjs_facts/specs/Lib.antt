@@ -1,4 +1,3 @@
-pub mod tasks
 -- the facts of a program
 pub mod Facts
 -- what expressions look like

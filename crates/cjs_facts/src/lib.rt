@@ -6,6 +6,5 @@
 #![tactic(auto)]
 
 mod found;
-pub mod tasks;
 
 pub use found::{Found, Var};

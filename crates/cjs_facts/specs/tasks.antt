@@ -1,2 +1,0 @@
--- what tasks do
-pub mod Effects

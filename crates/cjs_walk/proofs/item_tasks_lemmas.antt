@@ -1,4 +1,0 @@
--- imports and exports
-pub mod ItemForms
--- items that are statements
-pub mod Others

@@ -1,2 +1,0 @@
--- operands of operators
-pub mod Operands

@@ -1,2 +1,0 @@
--- parts that are no nodes of their own
-pub mod Parts
