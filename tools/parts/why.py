@@ -1,4 +1,5 @@
-"""Why an entry is in a graph: a shortest way of edges and redirects from a root, and what only it leads to."""
+"""Why an entry is in a graph: a shortest way of edges and redirects from a root, as the second program has it, or by a search here in
+a graph that the library built; and what only it leads to."""
 import collections
 import json
 import os
@@ -38,33 +39,54 @@ def named(graph, name, front=""):
     return min(of_package, key=lambda entry: (entry.depth, entry.specifier), default=None)
 
 
+def searched(came, entry):
+    """The way to an entry, or None where there is none."""
+    way, at = [], entry.specifier
+    while came.get(at):
+        way.insert(0, came[at])
+        at = way[0][0].specifier
+    return way if at in came else None
+
+
+def way_in(graph, lines):
+    """The same, by the lines of the second program."""
+    return None if lines[0] == "why none" else [step_of(graph, line) for line in lines if line.startswith("way ")]
+
+
+def step_of(graph, line):
+    _, specifier, words = line.split(" ", 2)
+    edge = report.EDGE.fullmatch("  " + words)
+    return graph.entries[specifier], report.Edge(*edge.groups()) if edge else report.Edge("redirect", "-", '""', "-", words.removeprefix("redirect "), None)
+
+
 class Reason:
-    def __init__(self, graph, entry):
+    def __init__(self, graph, entry, lines=None):
+        """lines: of the second program, or None to search for the way here."""
         self.graph, self.entry = graph, entry
-        came = reached(graph)
-        self.way, at = [], entry.specifier
-        while came.get(at):
-            before, edge = came[at]
-            self.way.insert(0, (before, edge))
-            at = before.specifier
-        self.start = at
-        kept = reached(graph, without=entry.specifier)
+        came, kept = reached(graph), reached(graph, without=entry.specifier)
+        self.way = way_in(graph, lines) if lines else searched(came, entry)
+        self.start = self.way[0][0].specifier if self.way else entry.specifier
         self.alone = [specifier for specifier in graph.entries if specifier in came and specifier not in kept and specifier != entry.specifier]
 
     def steps(self, bundle):
         """Each edge of the way: the module, line and column or None, the edge, and the entry that it leads to."""
-        for before, edge in self.way:
+        for before, edge in self.way or ():
             source = bundle.source(before.specifier) if edge.range != "-" and before.kind() == "module" and "Wasm" not in before.state else None
             yield before, source.place(faults.range_of(edge)[0]) if source else None, edge, self.graph.entries[edge.target]
 
     def lines(self, bundle, front=""):
-        yield f"{shown(self.start, front)}: {'a root' if self.start in self.graph.roots else 'named by a place outside the graph'}"
+        yield f"{shown(self.start, front)}: {self.said_of_start()}"
         for before, place, edge, target in self.steps(bundle):
             where = shown(before.specifier, front) + (f":{place[0]}:{place[1]}" if place else "")
             text = "" if edge.kind == "redirect" else f" {json.dumps(report.value_of(edge), ensure_ascii=False)}"
             yield f"{where}: {edge.kind}{text} -> {shown(target.specifier, front)}"
         yield f"without it {report.counted(len(self.alone), 'other entry', 'other entries')} would be gone{':' if self.alone else ''}"
         yield from (f"  {shown(specifier, front)}" for specifier in self.alone)
+
+    def said_of_start(self):
+        if self.way is None:
+            return "no edge leads to it that has a target"
+        return "a root" if self.start in self.graph.roots else "named by a place outside the graph"
 
     def value(self, bundle):
         steps = []

@@ -168,6 +168,24 @@ class Why(unittest.TestCase):
             self.assertEqual(found.alone, ["file:///" + it for it in alone], name)
 
 
+    def test_of_the_second_program(self):
+        """The same graph, by the lines of the second program."""
+        lines = ["root file:///a", "file:///a module TypeScript 1", '  import 0-1 "b" - -> file:///b', "file:///b redirect file:///c", "file:///c module TypeScript 1", "file:///d module TypeScript 1", "entries 4", ""]
+        graph = report.graph_of("\n".join(lines).encode())
+        found = why.Reason(graph, graph.entries["file:///c"], ["why 2", 'way file:///a import 0-1 "b" - -> file:///b', "way file:///b redirect file:///c"])
+        self.assertEqual(([(before.specifier, edge.kind, edge.target) for before, edge in found.way], found.start, found.alone),
+                         ([("file:///a", "import", "file:///b"), ("file:///b", "redirect", "file:///c")], "file:///a", []))
+        self.assertEqual(why.Reason(graph, graph.entries["file:///d"], ["why none"]).said_of_start(), "no edge leads to it that has a target")
+        searched = why.Reason(graph, graph.entries["file:///d"])
+        self.assertEqual((searched.way, searched.alone), (None, []))
+
+    def test_by_a_search(self):
+        for name in ("src/store.ts", "tiny-events"):
+            said = [json.loads(ran("why", "--json", "--loader", loader, name, DEMO)[1]) for loader in ("library", "program")]
+            self.assertEqual(len(said[0]["way"]), len(said[1]["way"]))
+            self.assertEqual(said[0]["alone"], said[1]["alone"])
+
+
 class Order(Project):
     FILES = {"package.json": "{}", "main.ts": "import './a'; import './b'; import('./c');", "a.ts": "import './b';", "b.ts": "import './a'; import './d';", "c.ts": "import './main';", "d.ts": ""}
 
