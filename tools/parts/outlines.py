@@ -1,7 +1,6 @@
 """Outlines: short texts with the same sites as long ones. A graph depends on a text by its sites alone, so that a graph of outlines
 is that of the texts, but for sizes and places, which are put back; and a text whose outline is known isn't read again."""
 import collections
-import functools
 import json
 
 from parts.sites import Site
@@ -109,7 +108,7 @@ def data_of_row(row):
 
 def sites_of_row(row):
     words = iter(row[4])
-    return list(map(functools.partial(tuple.__new__, Site), zip(words, words)))
+    return list(map(Site._make, zip(words, words)))
 
 
 def size_of_row(row):
