@@ -19,6 +19,12 @@ fn arrows_by_the_rules(rt: HostRuntime) -> Result<(), Fail> {
         (Lang::Typescript, true, "async <T>(a) => b", true),
         (Lang::Typescript, true, "async <T>(a)", false),
         (Lang::Typescript, true, "<T>(a) => b", true),
+        (Lang::Typescript, true, "<T>a", true),
+        (Lang::Wide, true, "<T>(a) => b", true),
+        (Lang::Wide, true, "<T>(a)", false),
+        (Lang::Wide, true, "<T>a", false),
+        (Lang::Wide, false, "<T>(a): b => c", false),
+        (Lang::Wide, true, "async <T>(a) => b", true),
         (Lang::Es, true, "(a)", false),
     ];
     for (lang, colon, text, opens) in cases {
