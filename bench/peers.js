@@ -1,17 +1,19 @@
-// The files that webpack, rollup or TypeScript reach: reads {"tool", "folder", "root"} and writes a list of paths.
+// The files that webpack, rollup or TypeScript reach: reads {"tool", "folder", "root", "commonjs"} and writes a list of paths.
 const fs = require("fs");
 const path = require("path");
 const asked = JSON.parse(fs.readFileSync(0, "utf8"));
 const root = path.join(asked.folder, asked.root);
 const extensions = [".ts", ".tsx", ".mts", ".cts", ".js", ".mjs", ".cjs", ".jsx", ".json"];
-const resolving = { extensions, conditionNames: ["import", "module", "default"], mainFields: ["module", "main"], modules: ["node_modules"] };
+const asModules = { extensions, conditionNames: ["import", "module", "default"], mainFields: ["module", "main"], modules: ["node_modules"] };
+const asNode = { extensions: [".js", ".json", ".cjs", ".mjs"], conditionNames: ["require", "node", "default"], mainFields: ["main", "module"], modules: ["node_modules"] };
+const resolving = asked.commonjs ? asNode : asModules;
 // Debian's form of enhanced-resolve looks here for more folders of packages.
 Object.defineProperty(process, "config", { value: { variables: { ...process.config.variables, node_prefix: "", node_relative_path: "none" } } });
 
 function webpack() {
   const room = fs.mkdtempSync("/tmp/joravelsu-peers-");
   process.on("exit", () => fs.rmSync(room, { recursive: true }));
-  const parser = { javascript: { commonjs: false, amd: false, system: false, requireContext: false, requireEnsure: false, requireInclude: false, url: false, worker: false } };
+  const parser = { javascript: { commonjs: asked.commonjs, amd: false, system: false, requireContext: false, requireEnsure: false, requireInclude: false, url: false, worker: false } };
   const compiler = require("webpack")({
     mode: "none", target: "node", context: asked.folder, entry: root, output: { path: room },
     resolve: resolving, module: { parser }, optimization: { minimize: false, concatenateModules: false, sideEffects: false }, performance: false, stats: "none",

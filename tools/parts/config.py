@@ -10,6 +10,7 @@ KEYS = {
     "roots": ("roots", list), "folder": ("folder", str), "kind": ("kind", str), "tsconfig": ("tsconfig", str), "deno": ("deno", str), "also": ("also", list),
     "exclude": ("exclude", list), "external": ("external", list), "conditions": ("conditions", list), "failOn": ("fail_on", list), "policy": ("policy", str), "all": ("all", bool),
     "allow": ("allow", list), "host": ("host", bool), "strict": ("strict", bool), "packages": ("packages", bool), "browser": ("browser", bool), "commonJs": ("commonjs", bool), "allForms": ("all_forms", bool), "linksOut": ("links_out", bool),
+    "typeImports": ("type_imports", bool), "workers": ("workers", bool), "addresses": ("addresses", bool),
 }
 # Options whose values are paths from the file's folder.
 PATHS = ("roots", "folder", "tsconfig", "deno", "policy")

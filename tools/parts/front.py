@@ -59,8 +59,8 @@ class Run:
         self.rules = rules_of(getattr(asked, "policy", None))
         asked.loader = "program" if self.rules or by_program else asked.loader
         asked.roots = list(self.roots(asked.roots or [asked.folder or project.named_above(os.getcwd())]))
-        # Calls of require are edges of the second program's graphs alone, and it alone reads all forms.
-        self.program = made_program("program" if asked.commonjs or asked.all_forms else asked.loader)
+        # Further forms are edges of the second program's graphs alone, and it alone reads all forms.
+        self.program = made_program("program" if any(getattr(asked, packing.CHOICES[key]) for key in packing.OF_SOURCES) else asked.loader)
         self.program.forms = {"allForms": True} if asked.all_forms else {}
         packer, roots = self.packed()
         self.choices = packer.choices

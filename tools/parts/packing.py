@@ -69,6 +69,11 @@ def in_order(place):
     return [*((1, folder) for folder in folders), (0, name)]
 
 
+def is_beside(site):
+    """Whether the text of a site may be a URL from its file, though it has no ./"""
+    return site.kind in sites.ADDRESSES and not site.value.startswith(("./", "../", "/")) and not urls.URL.match(site.value)
+
+
 class Resolver:
     """Where the specifiers in the files of a folder lead, as asked."""
 
@@ -105,6 +110,10 @@ class Resolver:
             return found
         if self.commonjs and site.kind in sites.REQUIRES:
             ways = ways.of_require()
+        if is_beside(site):
+            beside = self.lead(place, site._replace(value="./" + site.value), ways)
+            if beside.place:
+                return beside
         reference = site.kind if site.kind.startswith("reference-") else None
         key = folder, site.value, reference, ways.types_first, ways.requires
         if key not in self.known:
@@ -247,6 +256,8 @@ class Packer:
         self.of_data = set()  # the data: URLs that were walked
         self.led = {}  # what follows of sites, by folders and ways
         self.maps = collections.defaultdict(dict)  # of a specifier, or a URL that is no file's: its URL by the file that names it
+        self.beside = collections.defaultdict(dict)  # of a file: what its addresses without ./ lead to
+        self.twofold = {}  # of a file and a text: two URLs to which it leads there, by two forms
         self.redirects = {}
         self.external = {}
         self.types = {}  # from a file of JavaScript to its declaration
@@ -423,6 +434,12 @@ class Packer:
         target = urls.of_file(lead.place) if lead.place else lead.url or url or "external:" + value
         if lead.external:
             self.external[target] = None
+        if is_beside(site) and lead == self.resolver.lead(place, site._replace(value="./" + value)):
+            self.beside[place][value] = target
+            return
+        known = self.maps[value if url is None else url].get(place, target)
+        if known != target:
+            self.twofold[place, value] = known, target
         if url is not None and url != target and url.endswith("/"):
             self.redirects[url] = target  # the key of a map that ends with / stands for what is below it
             return None, None
@@ -465,6 +482,8 @@ class Packer:
                 for place, own in sorted(by_folder[folder].items()):
                     if own != url:
                         scopes.setdefault(urls.of_file(place), {})[key] = own
+        for place, rows in sorted(self.beside.items()):
+            scopes.setdefault(urls.of_file(place), {}).update(rows)
         return {"imports": imports, **({"scopes": scopes} if scopes else {})}
 
     # ---- the whole
@@ -493,7 +512,7 @@ class Packer:
             value["imports"] = [{"referrer": urls.of_file(code), "imports": ["./" + urls.of_file(types).rpartition("/")[2]]}
                                 for code, types in sorted(self.types.items())]
         rows = self.import_map()
-        if rows["imports"]:
+        if rows["imports"] or "scopes" in rows:
             value["importMap"] = {"base": "file:///", "map": rows}
         return value
 
@@ -507,6 +526,8 @@ class Packer:
             say("pack", self.resolver.told)
         for value, (place, lead) in sorted(self.notes.items())[:MOST_TOLD]:
             say("pack", f"{shown(value)} in {plain(place)} is taken for {plain(lead.place)} of the folder: {lead.note}")
+        for (place, value), (first, last) in sorted(self.twofold.items())[:MOST_TOLD]:
+            say("pack", f"{shown(value)} in {plain(place)} is {plain(first)} by one form and {plain(last)} by another: the graph has the latter")
         for path, reason in sorted(self.left_out.items())[:MOST_TOLD]:
             say("pack", f"{plain(path)}: left out: {reason}")
         self.tell_more(len(self.left_out), "is left out", "are left out")
@@ -531,8 +552,8 @@ class Packer:
 
 
 # The keys of a bundle that the second program alone knows, each with its option; those that say how a source is read.
-CHOICES = {"jsonWithoutAttribute": "json_without_attribute", "commonJs": "commonjs", "allForms": "all_forms"}
-OF_SOURCES = ("commonJs", "allForms")
+CHOICES = {"jsonWithoutAttribute": "json_without_attribute", **sites.FORMS, "allForms": "all_forms"}
+OF_SOURCES = (*sites.FORMS, "allForms")
 
 
 def choices_of(asked):

@@ -79,7 +79,7 @@ class Program:
     def graph(self, settings, modules):
         """The status and the report of the graph of a bundle, by its modules and what else it has."""
         value = {**settings, "modules": modules}
-        return self.report(json.dumps(value, ensure_ascii=False).encode("utf-8", "surrogatepass"), bool({"jsonWithoutAttribute", "commonJs", "allForms"} & set(settings)))
+        return self.report(json.dumps(value, ensure_ascii=False).encode("utf-8", "surrogatepass"), bool({"jsonWithoutAttribute", *sites.FORMS, "allForms"} & set(settings)))
 
     def which_are_read(self, specifier, texts):
         """Of each text whether it is a program of the grammar, as a module of this specifier's ending."""

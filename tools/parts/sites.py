@@ -9,8 +9,11 @@ from parts.words import MOST_BYTES, Wrong, plain, read_regular
 
 SOURCES = (".ts", ".mts", ".cts", ".tsx", ".js", ".mjs", ".cjs", ".jsx")
 TYPESCRIPT = (".ts", ".mts", ".cts", ".tsx")
-# The kinds of a call of require.
-REQUIRES = ("require", "import-equals", "import-equals-type")
+# The keys of a bundle that choose further forms, and the options that they stand for.
+FORMS = {"commonJs": "commonjs", "typeImports": "type_imports", "workers": "workers", "addresses": "addresses"}
+# The kinds of a call of require, and those whose text is a URL from where it stands, also without ./
+REQUIRES = ("require", "require-resolve", "import-equals", "import-equals-type")
+ADDRESSES = ("worker", "address")
 # The kinds of edges that no graph follows, and those that lead to no types.
 PLACES = ("require-resolve", "address")
 UNTYPED = (*PLACES, "import-source", "dynamic-source", "wasm", "require", "worker")

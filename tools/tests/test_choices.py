@@ -104,6 +104,47 @@ class CommonJs(Project):
         self.assertEqual(resolve.Ways(["a"]).of_require().conditions, {"a", "require", "node", "default"})
 
 
+class FurtherForms(Project):
+    FILES = {
+        "package.json": {}, "t.ts": "export type T = 1;", "w.ts": "export {};", "pic.js": "",
+        "a.ts": 'let t: import("./t").T; new Worker(new URL("w.ts", import.meta.url)); new URL("pic.js", import.meta.url); import.meta.resolve("dual"); require.resolve("dual");',
+        "node_modules/dual/package.json": {"name": "dual", "exports": {"import": "./i.mjs", "require": "./r.cjs"}}, "node_modules/dual/i.mjs": "", "node_modules/dual/r.cjs": "",
+    }
+
+    def edges(self, *words):
+        status, out, told = self.ran("graph", "--json", *words, "a.ts")
+        self.assertEqual(status, 0, told)
+        plain = lambda url: (url or "").removeprefix("file:///")
+        graph = json.loads(out)["modules"]
+        return [" ".join((edge["kind"], edge["specifier"], plain(edge.get("target")))) for entry in graph for edge in entry.get("edges", ())], [plain(entry["specifier"]) for entry in graph]
+
+    def test_each_is_chosen(self):
+        self.put(self.FILES)
+        types, works = "type-import ./t t.ts", "worker w.ts w.ts"
+        places = ["address pic.js pic.js", "address dual node_modules/dual/i.mjs"]
+        self.assertEqual(self.edges(), ([], ["a.ts"]))
+        self.assertEqual(self.edges("--type-imports"), ([types], ["a.ts", "t.ts"]))
+        self.assertEqual(self.edges("--workers"), ([works], ["a.ts", "w.ts"]))
+        self.assertEqual(self.edges("--addresses"), (["address w.ts w.ts", *places], ["a.ts"]))
+        self.assertEqual(self.edges("--type-imports", "--workers", "--addresses", "--kind", "code"), ([types, works, *places], ["a.ts", "w.ts"]))
+        self.assertEqual(self.edges("--commonjs"), (["require-resolve dual node_modules/dual/r.cjs"], ["a.ts"]))
+
+    def test_the_file_of_options_says_it(self):
+        self.put({**self.FILES, "joravelsu.json": {"workers": True, "typeImports": True, "addresses": False}})
+        self.assertEqual(self.edges()[1], ["a.ts", "t.ts", "w.ts"])
+
+    def test_a_text_that_leads_to_two_files_is_told(self):
+        self.put({**self.FILES, "a.ts": 'import("dual"); require("dual");'})
+        told = self.ran("graph", "--commonjs", "a.ts")[2]
+        self.assertIn('"dual" in a.ts is file:///node_modules/dual/i.mjs by one form and file:///node_modules/dual/r.cjs by another: the graph has the latter\n', told)
+
+    def test_it_is_vendored(self):
+        self.put(self.FILES)
+        self.assertEqual(self.ran("vendor", "--workers", "--type-imports", "-o", "out", "a.ts")[0], 0)
+        with open(os.path.join(self.room, "out", "a.ts"), encoding="utf-8") as file:
+            self.assertIn('let t: import("./t.ts").T; new Worker(new URL("./w.ts", import.meta.url)); new URL("pic.js", import.meta.url);', file.read())
+
+
 class AllForms(Project):
     FILES = {"package.json": {}, "a.ts": 'import b from "./b";\nexport default <any>b;', "b.ts": "export default <const>[1];"}
 

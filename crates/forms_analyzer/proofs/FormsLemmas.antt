@@ -1,4 +1,4 @@
--- The sites and the calls of the tree of a row.
+-- The sites of the tree of a row, and those of the forms.
 use Rattle.std.specs.Prelude.{Err}
 use Rattle.std.specs.List.{flat_map}
 use Rattle.std.proofs.Common.{◌≡◌, sym, ap, ◌∙◌, ℕ, List, ◌++◌}
@@ -16,12 +16,13 @@ use Rattle.es_syntax.specs.declared.entry.Entry.{Entry}
 use Rattle.es_syntax.specs.Trees.{trees, first_tree}
 use Rattle.es_law_sites.specs.plain.Own.{plain_sites}
 use Rattle.es_program_reader.specs.Derived.{GivesTree}
-use Rattle.es_requires.specs.Calls.{requires}
+use Rattle.es_forms.specs.declared.chosen.Forms.{Forms}
+use Rattle.es_forms.specs.Forms.{forms_in}
 use Rattle.media_type.specs.declared.media_type.MediaType.{MediaType}
 use Rattle.source_reading.specs.Tree.{modes_of, IsFirstTree}
 use Rattle.source_reading.specs.Read.{references_in, HasSitesIn}
 use Rattle.source_sites.proofs.SitesLemmas.{has_sites}
-use Rattle.forms_analyzer.specs.Forms.{IsFirstKept, HoldsFirst, HasCalls, HasForms}
+use Rattle.forms_analyzer.specs.Forms.{IsFirstKept, HoldsFirst, HasChosen, HasForms}
 use Rattle.forms_analyzer.proofs.TreeLemmas.{first_typed, first_plain}
 
 module _ (l : Lang) (media : MediaType) (x : List ℕ) (ts : List Token) (cs : List Comment) (reads : Reads x ts cs)
@@ -40,19 +41,20 @@ module _ (l : Lang) (media : MediaType) (x : List ℕ) (ts : List Token) (cs : L
       (record { tree = typed.0; is = typed.1; sites = row_sites found same ∙ sym typed.2 })
       (both ∙ ap (λ (r : List Site). r ++ found) refers)
 
-  row_has_calls : (calls : List Site) → calls ≡ requires x ts (first_tree (trees es)) → HasCalls l media x calls
-  row_has_calls calls is = record {
+  row_has_chosen : (chosen : Forms) (more : List Site) → more ≡ forms_in chosen x ts (first_tree (trees es))
+      → HasChosen chosen l media x more
+  row_has_chosen chosen more is = record {
     tokens = ts;
     reads = (cs, reads);
     tree = holds.tree;
     first = holds.first;
-    calls = is ∙ ap (λ (us : List Cst). requires x ts (first_tree us)) holds.row;
+    forms = is ∙ ap (λ (us : List Cst). forms_in chosen x ts (first_tree us)) holds.row;
   }
 
-  pub row_has_forms : (sites calls all : List Site) → HasSitesIn l media x sites
-      → calls ≡ requires x ts (first_tree (trees es)) → all ≡ sites ++ calls → HasForms l media x all
-  row_has_forms sites calls all has is both =
-      record { sites = sites; has = has; calls = calls; has_calls = row_has_calls calls is; both = both }
+  pub row_has_forms : (chosen : Forms) (sites more all : List Site) → HasSitesIn l media x sites
+      → more ≡ forms_in chosen x ts (first_tree (trees es)) → all ≡ sites ++ more → HasForms chosen l media x all
+  row_has_forms chosen sites more all has is both =
+      record { sites = sites; has = has; more = more; has_more = row_has_chosen chosen more is; both = both }
 
 -- where no plain tree is given, there is no typed one
 pub no_typed : (l : Lang) (media : MediaType) (x : List ℕ) (ts : List Token) (token : ℕ)

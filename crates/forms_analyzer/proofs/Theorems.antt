@@ -5,7 +5,9 @@ use Rattle.std.proofs.lemmas.List.Elements.{All-append, All-weaker}
 use Rattle.base.specs.declared.range.Range.{Range}
 use Rattle.es_site.specs.declared.site.Site.{Site}
 use Rattle.es_site.specs.Sites.{CutsLiteral}
-use Rattle.es_requires.proofs.Theorems.{requires_cut}
+use Rattle.es_forms.specs.declared.chosen.Forms.{Forms}
+use Rattle.es_forms.specs.Chosen.{is_any}
+use Rattle.es_forms.proofs.Theorems.{forms_cut as chosen_cut}
 use Rattle.grammar_theory.specs.declared.error.Lang.{Lang}
 use Rattle.media_type.specs.declared.media_type.MediaType.{MediaType}
 use Rattle.parse_diagnostic.specs.declared.kind.SyntaxErrorKind.{SyntaxErrorKind}
@@ -13,20 +15,20 @@ use Rattle.source_reading.specs.Cuts.{Cuts}
 use Rattle.source_reading.specs.Read.{HasSitesIn}
 use Rattle.source_reading.proofs.Theorems.{sites_cut, sites_in_cut}
 use Rattle.graph_entry.specs.Reading.{Sites, CutsSites, ReadsSource, diagnosis_at, with_sites, no_program as no_source}
-use Rattle.forms_analyzer.specs.Forms.{full_language, language_by, HasForms, ReadsAs, with_forms, no_program, ReadsBy}
+use Rattle.forms_analyzer.specs.Forms.{full_language, language_by, HasForms, ReadsAs, with_forms, no_program, ReadsWhere, ReadsBy}
 
-module _ (l : Lang) (media : MediaType) (text : List ℕ) where
+module _ (chosen : Forms) (l : Lang) (media : MediaType) (text : List ℕ) where
   -- each site cuts its literal
-  pub forms_cut : (found : List Site) → HasForms l media text found
+  pub forms_cut : (found : List Site) → HasForms chosen l media text found
       → All (λ site. Cuts text site.range site.value) found
   forms_cut found has =
       let P : Site → Type 0 = λ site. Cuts text site.range site.value in
-      let calls = has.has_calls in
+      let more = has.has_more in
       subst (All P) (sym has.both)
-      (All-append P has.sites has.calls (sites_in_cut l media text has.sites has.has)
-      (All-weaker (λ site. CutsLiteral text site.range site.value) P (λ site cut. inl cut) has.calls
-      (subst (All (λ (site : Site). CutsLiteral text site.range site.value)) (sym calls.calls)
-      (requires_cut text calls.tokens calls.reads calls.tree))))
+      (All-append P has.sites has.more (sites_in_cut l media text has.sites has.has)
+      (All-weaker (λ site. CutsLiteral text site.range site.value) P (λ site cut. inl cut) has.more
+      (subst (All (λ (site : Site). CutsLiteral text site.range site.value)) (sym more.forms)
+      (chosen_cut text more.tokens more.reads chosen more.tree))))
 
 ok_sites : (a b : List Site) → (let one : Sites = Ok a in one) ≡ Ok b → a ≡ b
 ok_sites a b e = cc
@@ -51,8 +53,11 @@ module _ (Has : Lang → MediaType → List ℕ → List Site → Type 0)
       (cut (language media) media text found has)
   reads_as_cuts s media text sites (no_program kind range refused is) = absurd (ok_err sites s kind range is)
 
+where_cuts : (any : Bool) (chosen : Forms) (all : Bool) → CutsSites (ReadsWhere any chosen all)
+where_cuts true chosen all = reads_as_cuts (HasForms chosen) (forms_cut chosen) (language_by all)
+where_cuts false chosen true = reads_as_cuts HasSitesIn sites_in_cut full_language
+where_cuts false chosen false = source_cuts
+
 -- and each site cuts its literal
-pub reads_by_cuts : (requires all : Bool) → CutsSites (ReadsBy requires all)
-reads_by_cuts true all = reads_as_cuts HasForms forms_cut (language_by all)
-reads_by_cuts false true = reads_as_cuts HasSitesIn sites_in_cut full_language
-reads_by_cuts false false = source_cuts
+pub reads_by_cuts : (chosen : Forms) (all : Bool) → CutsSites (ReadsBy chosen all)
+reads_by_cuts chosen all = where_cuts (is_any chosen) chosen all

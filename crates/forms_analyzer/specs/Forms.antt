@@ -1,4 +1,4 @@
--- What a source is read as by choice: its sites, after them the calls of a free `require`, and in which language.
+-- What a source is read as by choice: its sites, after them those of further forms, and in which language.
 use Rattle.std.specs.Prelude.{◌≡◌, ℕ, Bool, true, false, if◌then◌else◌, List, [], ◌∷◌, ◌++◌, ◌⊎◌, Option, Ok, Err}
 use Rattle.base.specs.declared.range.Range.{Range}
 use Rattle.es_token.specs.declared.token.Token.{Token}
@@ -12,7 +12,9 @@ use Rattle.es_site.specs.declared.site.Site.{Site}
 use Rattle.es_syntax.specs.declared.entry.Entry.{Entry}
 use Rattle.es_program_reader.specs.Derived.{IsRowOf}
 use Rattle.es_program_reader.specs.Program.{IsKept}
-use Rattle.es_requires.specs.Calls.{requires}
+use Rattle.es_forms.specs.declared.chosen.Forms.{Forms}
+use Rattle.es_forms.specs.Chosen.{is_any}
+use Rattle.es_forms.specs.Forms.{forms_in}
 use Rattle.media_type.specs.declared.media_type.MediaType.{MediaType}
 use Rattle.media_type.specs.declared.media_type.MediaType.TheVariants.{Tsx}
 use Rattle.media_type.specs.MediaType.{is_typed}
@@ -49,21 +51,21 @@ pub record HoldsFirst (lang : Lang) (K : List Key) (modes : List Mode) (es : Lis
   pub row : IsRowOf tree es
   pub first : IsFirstKept lang K modes tree
 
--- the calls of a source, by the tree that it is read as in this language
-pub record HasCalls (l : Lang) (media : MediaType) (text : List ℕ) (found : List Site) : Type 0 where
+-- the sites of these forms in a source, by the tree that it is read as in this language
+pub record HasChosen (chosen : Forms) (l : Lang) (media : MediaType) (text : List ℕ) (found : List Site) : Type 0 where
   pub tokens : List Token
   pub reads : ReadsTokens text tokens
   pub tree : Cst
   pub first : IsFirstKept l (keys_of tokens) (modes_of media) tree
-  pub calls : found ≡ requires text tokens tree
+  pub forms : found ≡ forms_in chosen text tokens tree
 
--- its sites, and after them its calls
-pub record HasForms (l : Lang) (media : MediaType) (text : List ℕ) (found : List Site) : Type 0 where
+-- its sites, and after them those of these forms
+pub record HasForms (chosen : Forms) (l : Lang) (media : MediaType) (text : List ℕ) (found : List Site) : Type 0 where
   pub sites : List Site
   pub has : HasSitesIn l media text sites
-  pub calls : List Site
-  pub has_calls : HasCalls l media text calls
-  pub both : found ≡ sites ++ calls
+  pub more : List Site
+  pub has_more : HasChosen chosen l media text more
+  pub both : found ≡ sites ++ more
 
 -- what a source is read as, of which so much is told, by the languages of media types
 pub data ReadsAs (Has : Lang → MediaType → List ℕ → List Site → Type 0) (language : MediaType → Lang) (s : List ℕ)
@@ -76,8 +78,12 @@ pub data ReadsAs (Has : Lang → MediaType → List ℕ → List Site → Type 0
       → IsRefused (language media) (modes_of media) text kind range
       → sites ≡ Err (diagnosis_at s kind range) → ReadsAs Has language s media text sites
 
--- where `require` counts, or doesn't, and where all forms are read, or those of the media type's language
-abbrev pub ReadsBy : Bool → Bool → Reading
-ReadsBy true all = ReadsAs HasForms (language_by all)
-ReadsBy false true = ReadsAs HasSitesIn full_language
-ReadsBy false false = ReadsSource
+-- where there are further forms, or none, and where all forms are read, or those of the media type's language
+abbrev pub ReadsWhere : Bool → Forms → Bool → Reading
+ReadsWhere true chosen all = ReadsAs (HasForms chosen) (language_by all)
+ReadsWhere false chosen true = ReadsAs HasSitesIn full_language
+ReadsWhere false chosen false = ReadsSource
+
+-- where these are chosen
+abbrev pub ReadsBy : Forms → Bool → Reading
+ReadsBy chosen all = ReadsWhere (is_any chosen) chosen all

@@ -10,7 +10,9 @@ use Rattle.grammar_theory.specs.Key.{Key, keys_of}
 use Rattle.es_grammar.specs.declared.cst.tree.Cst.{Cst}
 use Rattle.es_program_reader.proofs.SoundTheorems.{one_kept}
 use Rattle.es_site.specs.declared.site.Site.{Site}
-use Rattle.es_requires.specs.Calls.{requires}
+use Rattle.es_forms.specs.declared.chosen.Forms.{Forms}
+use Rattle.es_forms.specs.Chosen.{is_any}
+use Rattle.es_forms.specs.Forms.{forms_in}
 use Rattle.media_type.specs.declared.media_type.MediaType.{MediaType}
 use Rattle.parse_diagnostic.specs.declared.kind.SyntaxErrorKind.{SyntaxErrorKind}
 use Rattle.source_reading.specs.Tree.{modes_of}
@@ -18,7 +20,7 @@ use Rattle.source_reading.specs.Read.{HasSitesIn, IsRefused}
 use Rattle.source_reading.proofs.Theorems.{one_sites_in, sites_or_refusal, one_refusal}
 use Rattle.graph_entry.specs.Reading.{IsFunction, diagnosis_at}
 use Rattle.graph_entry.specs.ReadingLaws.{reads_once}
-use Rattle.forms_analyzer.specs.Forms.{full_language, language_by, IsFirstKept, HasCalls, HasForms, ReadsAs, with_forms, no_program, ReadsBy}
+use Rattle.forms_analyzer.specs.Forms.{full_language, language_by, IsFirstKept, HasChosen, HasForms, ReadsAs, with_forms, no_program, ReadsWhere, ReadsBy}
 
 module _ (l : Lang) (K : List Key) where
   first_once : (modes : List Mode) (s t : Cst) → IsFirstKept l K modes s → IsFirstKept l K modes t → s ≡ t
@@ -28,27 +30,29 @@ module _ (l : Lang) (K : List Key) where
   first_once (m ∷ modes) s t (inr is) (inl so) = absurd (is.0 t so)
   first_once (m ∷ modes) s t (inr is) (inr so) = first_once modes s t is.1 so.1
 
-module _ (l : Lang) (media : MediaType) (text : List ℕ) where
-  -- its calls are one list at most
-  one_calls : (found other : List Site) → HasCalls l media text found → HasCalls l media text other → found ≡ other
-  one_calls found other one also =
+module _ (chosen : Forms) (l : Lang) (media : MediaType) (text : List ℕ) where
+  -- the sites of the forms are one list at most
+  one_chosen : (found other : List Site) → HasChosen chosen l media text found → HasChosen chosen l media text other
+      → found ≡ other
+  one_chosen found other one also =
       let same : one.tokens ≡ also.tokens
       = (one_reading text one.tokens also.tokens one.reads.0 also.reads.0 one.reads.1 also.reads.1).0 in
       let first : IsFirstKept l (keys_of one.tokens) (modes_of media) also.tree
       = subst (λ (ts : List Token). IsFirstKept l (keys_of ts) (modes_of media) also.tree) (sym same)
       also.first in
       let tree = first_once l (keys_of one.tokens) (modes_of media) one.tree also.tree one.first first in
-      one.calls ∙ ap (λ (ts : List Token). requires text ts one.tree) same
-      ∙ ap (λ (t : Cst). requires text also.tokens t) tree ∙ sym also.calls
+      one.forms ∙ ap (λ (ts : List Token). forms_in chosen text ts one.tree) same
+      ∙ ap (λ (t : Cst). forms_in chosen text also.tokens t) tree ∙ sym also.forms
 
-  one_forms : (found other : List Site) → HasForms l media text found → HasForms l media text other → found ≡ other
+  one_forms : (found other : List Site) → HasForms chosen l media text found → HasForms chosen l media text other
+      → found ≡ other
   one_forms found other one also =
-      one.both ∙ ap (λ (s : List Site). s ++ one.calls) (one_sites_in l media text one.sites also.sites one.has also.has)
-      ∙ ap (λ (s : List Site). also.sites ++ s) (one_calls one.calls also.calls one.has_calls also.has_calls)
+      one.both ∙ ap (λ (s : List Site). s ++ one.more) (one_sites_in l media text one.sites also.sites one.has also.has)
+      ∙ ap (λ (s : List Site). also.sites ++ s) (one_chosen one.more also.more one.has_more also.has_more)
       ∙ sym also.both
 
-  forms_or_refusal : (found : List Site) (kind : SyntaxErrorKind) (range : Option Range) → HasForms l media text found
-      → IsRefused l (modes_of media) text kind range → ⊥
+  forms_or_refusal : (found : List Site) (kind : SyntaxErrorKind) (range : Option Range)
+      → HasForms chosen l media text found → IsRefused l (modes_of media) text kind range → ⊥
   forms_or_refusal found kind range has refused = sites_or_refusal l media text has.sites kind range has.has refused
 
 -- what is told of a source is one list at most, and nothing of what is no program
@@ -70,8 +74,12 @@ module _ (Has : Lang → MediaType → List ℕ → List Site → Type 0)
       is ∙ ap (λ (kind : SyntaxErrorKind). Err (diagnosis_at s kind r)) same.0
       ∙ ap (λ (range : Option Range). Err (diagnosis_at s l range)) same.1 ∙ sym so
 
+reads_where_once : (any : Bool) (chosen : Forms) (all : Bool) → IsFunction (ReadsWhere any chosen all)
+reads_where_once true chosen all =
+    reads_as_once (HasForms chosen) (one_forms chosen) (forms_or_refusal chosen) (language_by all)
+reads_where_once false chosen true = reads_as_once HasSitesIn one_sites_in sites_or_refusal full_language
+reads_where_once false chosen false = reads_once
+
 -- a source is read as one thing at most
-pub reads_by_once : (requires all : Bool) → IsFunction (ReadsBy requires all)
-reads_by_once true all = reads_as_once HasForms one_forms forms_or_refusal (language_by all)
-reads_by_once false true = reads_as_once HasSitesIn one_sites_in sites_or_refusal full_language
-reads_by_once false false = reads_once
+pub reads_by_once : (chosen : Forms) (all : Bool) → IsFunction (ReadsBy chosen all)
+reads_by_once chosen all = reads_where_once (is_any chosen) chosen all

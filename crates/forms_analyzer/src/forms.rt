@@ -1,4 +1,4 @@
-//! The sites and the calls of a text.
+//! The sites of a text, and those of further forms.
 ghost use Rattle.std.specs.Prelude.{◌≡◌, ℕ, IfOk};
 ghost use Rattle.std.specs.Result.{IfErr};
 ghost use Rattle.url.specs.Parts.{serialize};
@@ -13,8 +13,8 @@ ghost use Rattle.forms_analyzer.specs.Forms.{HoldsFirst, HasForms};
 
 use crate::tree::read_tree;
 use base::Items;
+use es_forms::{Forms, form_sites};
 use es_lexer::lex_tokens;
-use es_requires::require_sites;
 use es_site::Site;
 use es_syntax::{Entry, Siblings};
 use es_token::{Comment, Lexed, Token};
@@ -27,22 +27,23 @@ use source_text::SourceText;
 use std::alloc::{AllocError, Global};
 use url::Url;
 
-/// The sites of a text as it is, which has no byte order mark, in this language, and after them its calls of a free
-/// `require`. The media type tells whether it may be a module or a script, and whether its comments refer.
+/// The sites of a text as it is, which has no byte order mark, in this language, and after them those of the
+/// forms that are chosen. The media type tells whether it may be a module or a script, and whether its comments refer.
 pub fn read_forms(
     alloc: Global,
     specifier: &Url,
     text: &SourceText,
+    chosen: Forms,
     lang: Lang,
     media_type: MediaType,
 ) -> Result<Items<Site>, ParseFault>
-    // What is answered are its sites and its calls.
-    ensures found { IfOk result (HasForms lang media_type text.now) }
+    // What is answered are its sites and those of the forms.
+    ensures found { IfOk result (HasForms chosen lang media_type text.now) }
     // A refusal, but for memory, is its fault.
     ensures refused { IfErr result (Refuses (IsFaultIn (serialize specifier.now) lang (spec.modes_of media_type) text.now)) }
 {
     match lex_tokens(alloc, text.as_str()) {
-        Ok(lexed) => forms_of_lexed(alloc, specifier, text, lang, media_type, lexed),
+        Ok(lexed) => forms_of_lexed(alloc, specifier, text, chosen, lang, media_type, lexed),
         Err(error) => Err(lexical_fault(alloc, specifier, text, error)),
     }
 }
@@ -51,17 +52,26 @@ fn forms_of_lexed(
     alloc: Global,
     specifier: &Url,
     text: &SourceText,
+    chosen: Forms,
     lang: Lang,
     media_type: MediaType,
     lexed: Lexed,
 ) -> Result<Items<Site>, ParseFault>
     requires { Reads text.now lexed.tokens lexed.comments }
-    ensures found { IfOk result (HasForms lang media_type text.now) }
+    ensures found { IfOk result (HasForms chosen lang media_type text.now) }
     ensures refused { IfErr result (Refuses (IsFaultIn (serialize specifier.now) lang (spec.modes_of media_type) text.now)) }
 {
     let tokens = lexed.tokens.as_slice();
     match read_tree(alloc, lang, media_type, tokens) {
-        Ok(row) => forms_of_row(alloc, lang, media_type, text, &lexed, row.as_slice()),
+        Ok(row) => forms_of_row(
+            alloc,
+            chosen,
+            lang,
+            media_type,
+            text,
+            &lexed,
+            row.as_slice(),
+        ),
         Err(error) => Err(tokens_fault(alloc, specifier, text, tokens, error)),
     }
 }
@@ -85,6 +95,7 @@ fn tokens_fault(
 
 fn forms_of_row(
     alloc: Global,
+    chosen: Forms,
     lang: Lang,
     media_type: MediaType,
     text: &SourceText,
@@ -93,13 +104,14 @@ fn forms_of_row(
 ) -> Result<Items<Site>, ParseFault>
     requires reads { Reads text.now lexed.now.tokens lexed.now.comments }
     requires holds { HoldsFirst lang (keys_of lexed.now.tokens) (spec.modes_of media_type) row.now }
-    ensures found { IfOk result (HasForms lang media_type text.now) }
+    ensures found { IfOk result (HasForms chosen lang media_type text.now) }
     ensures memory { IfErr result (λ e. e ≡ ParseFault.OutOfMemory) }
 {
     let tokens = lexed.tokens.as_slice();
     let comments = lexed.comments.as_slice();
     match all_forms(
         alloc,
+        chosen,
         lang,
         media_type,
         text.as_str(),
@@ -112,9 +124,10 @@ fn forms_of_row(
     }
 }
 
-// The sites of the tree, and after them its calls.
+// The sites of the tree, and after them those of the forms.
 fn all_forms(
     alloc: Global,
+    chosen: Forms,
     lang: Lang,
     media_type: MediaType,
     text: &str,
@@ -124,11 +137,11 @@ fn all_forms(
 ) -> Result<Items<Site>, AllocError>
     requires reads { Reads text.now tokens.now comments.now }
     requires holds { HoldsFirst lang (keys_of tokens.now) (spec.modes_of media_type) row.now }
-    ensures { IfOk result (HasForms lang media_type text.now) }
+    ensures { IfOk result (HasForms chosen lang media_type text.now) }
 {
     let sites = sites_of_row(alloc, lang, media_type, text, tokens, comments, row)?;
-    let calls = require_sites(alloc, text, tokens, &Siblings { entries: row })?;
-    with_sites(sites, calls)
+    let more = form_sites(alloc, text, tokens, &Siblings { entries: row }, chosen)?;
+    with_sites(sites, more)
 }
 
 // Reference comments come first.

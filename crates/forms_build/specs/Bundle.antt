@@ -1,23 +1,45 @@
--- Bundles with choices, and with two more: whether calls of `require` count, and whether all forms are read.
+-- Bundles with choices, and with more: which further forms count, and whether all forms are read.
 use Rattle.std.specs.Prelude.{ℕ, Bool, false, ◌||◌, List, codes, bytes_eq, Ok}
 use Rattle.serde_json.specs.Data.{Data, Members}
 use Rattle.import_map.specs.json_reading.Reading.{Reading, and_then, bool_of, object_of, optional}
 use Rattle.graph_bundle.specs.declared.chosen.ChosenBundle.{ChosenBundle}
 use Rattle.graph_bundle.specs.Bundle.{knows_chosen, chosen_from_by}
+use Rattle.es_forms.specs.declared.chosen.Forms.{Forms}
 use Rattle.forms_build.specs.declared.bundle.FormsBundle.{FormsBundle}
 
--- the keys of a bundle with choices, and two more
+-- the keys of the further forms
+abbrev pub is_form : List ℕ → Bool
+is_form key =
+    bytes_eq key (codes "commonJs") || (bytes_eq key (codes "typeImports") || (bytes_eq key (codes "workers")
+    || bytes_eq key (codes "addresses")))
+
+-- the keys of a bundle with choices, these, and one more
 abbrev pub knows_forms : List ℕ → Bool
-knows_forms key = knows_chosen key || (bytes_eq key (codes "commonJs") || bytes_eq key (codes "allForms"))
+knows_forms key = knows_chosen key || (is_form key || bytes_eq key (codes "allForms"))
+
+-- whether an object chooses what this key says
+abbrev pub choice : List ℕ → Data → Reading Bool
+choice key value = optional bool_of false key value
+
+-- the further forms that an object chooses
+abbrev pub choices_of : Data → Reading Forms
+choices_of value =
+    and_then (λ commonjs. and_then (λ type_imports. and_then (λ workers. and_then (λ addresses. Ok (record {
+      commonjs = commonjs;
+      type_imports = type_imports;
+      workers = workers;
+      addresses = addresses;
+    })) (choice (codes "addresses") value)) (choice (codes "workers") value)) (choice (codes "typeImports") value))
+    (choice (codes "commonJs") value)
 
 -- the bundle that an object with these members says, of whose keys these are known
 abbrev pub forms_from_by : (List ℕ → Bool) → Data → Members → Reading FormsBundle
 forms_from_by knows value members =
-    and_then (λ commonjs. and_then (λ all_forms. and_then (λ chosen.
-    Ok (record { chosen = chosen; commonjs = commonjs; all_forms = all_forms }))
+    and_then (λ forms. and_then (λ all_forms. and_then (λ chosen.
+    Ok (record { chosen = chosen; forms = forms; all_forms = all_forms }))
     (chosen_from_by knows value members))
-    (optional bool_of false (codes "allForms") value))
-    (optional bool_of false (codes "commonJs") value)
+    (choice (codes "allForms") value))
+    (choices_of value)
 
 abbrev pub forms_from : Data → Members → Reading FormsBundle
 forms_from value members = forms_from_by knows_forms value members

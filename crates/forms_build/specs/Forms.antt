@@ -1,4 +1,4 @@
--- The graph of a bundle with choices, where calls of `require` count too, or don't, and all forms are read, or not.
+-- The graph of a bundle with choices, where further forms count too, and all forms are read, or not.
 use Rattle.std.specs.Prelude.{◌≡◌, Bool, ℕ, ◌≤◌, length, map}
 use Rattle.graph_entry.specs.Ways.{Ways, ways_by}
 use Rattle.graph_entry.specs.Analysed.{AnalysedBy}
@@ -19,12 +19,12 @@ use Rattle.forms_build.specs.declared.bundle.FormsBundle.{FormsBundle}
 
 -- what reads its sources
 abbrev pub analyzer_of : FormsBundle → FormsAnalyzer
-analyzer_of forms = record { commonjs = forms.commonjs; all_forms = forms.all_forms }
+analyzer_of forms = record { forms = forms.forms; all_forms = forms.all_forms }
 
 -- the rules of its graph
 abbrev pub forms_rules : FormsBundle → Rules
 forms_rules forms =
-    rules_by (AnalysedBy (ways_by (bundle_resolving forms.chosen.bundle) (ReadsBy forms.commonjs forms.all_forms)))
+    rules_by (AnalysedBy (ways_by (bundle_resolving forms.chosen.bundle) (ReadsBy forms.forms forms.all_forms)))
     (json_allowed forms.chosen.json_without_attribute (following_of forms.chosen.bundle.options))
 
 -- the graph: of the bundle's roots and of what places outside import, over its modules, within its limit
@@ -43,7 +43,7 @@ FormsWays = Own BundleResolver FormsAnalyzer
 
 -- where specifiers lead by it, and how sources are read
 abbrev pub ways_of : FormsWays → Ways
-ways_of own = ways_by (resolving_or map_resolve own.resolver.map) (ReadsBy own.analyzer.commonjs own.analyzer.all_forms)
+ways_of own = ways_by (resolving_or map_resolve own.resolver.map) (ReadsBy own.analyzer.forms own.analyzer.all_forms)
 
 -- the rules of a graph by it
 abbrev pub rules_in : FormsWays → Rules

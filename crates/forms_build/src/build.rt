@@ -33,7 +33,7 @@ pub fn build_forms<R: Threads + Sync>(
 {
     let FormsBundle {
         chosen,
-        commonjs,
+        forms,
         all_forms,
     } = forms;
     let ChosenBundle {
@@ -41,10 +41,7 @@ pub fn build_forms<R: Threads + Sync>(
         json_without_attribute,
     } = chosen;
     let plain = new_build(alloc, bundle)?;
-    let analyzer = FormsAnalyzer {
-        commonjs,
-        all_forms,
-    };
+    let analyzer = FormsAnalyzer { forms, all_forms };
     let mut build = reading(plain, json_without_attribute, analyzer)?;
     poll_forms(rt, &mut build, batch)
 }

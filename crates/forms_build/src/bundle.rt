@@ -1,4 +1,4 @@
-//! Bundles with choices, and with two more: whether calls of `require` count, and whether all forms are read.
+//! Bundles with choices, and with more: which further forms count, and whether all forms are read.
 ghost use Rattle.std.specs.Prelude.{◌≡◌, ℕ, List, IfOk, Err, Ok};
 ghost use Rattle.serde_json.specs.Data.{Data};
 ghost use Rattle.serde_json.specs.View.{view, members_view};
@@ -8,6 +8,7 @@ ghost use Rattle.forms_build.specs.Bundle.{forms_of, forms_from_by};
 ghost use Rattle.forms_build.specs.Bundle as spec;
 
 use base::Text;
+use forms_analyzer::Forms;
 use graph_bundle::{BundleFault, ChosenBundle, ChosenKeys, Keys, chosen_with, fault_of, optional};
 use import_map::json_reading::Reading;
 use serde_json::{Map, Value};
@@ -17,8 +18,8 @@ use std::alloc::{AllocError, Global};
 #[derive(Drop)]
 pub struct FormsBundle {
     pub chosen: ChosenBundle,
-    /// Calls of a free `require` are edges too.
-    pub commonjs: bool,
+    /// The further forms that are edges too.
+    pub forms: Forms,
     /// Forms are read too that a media type's own language leaves out.
     pub all_forms: bool,
 }
@@ -79,8 +80,8 @@ pub fn forms_with<K: Keys>(
 ) -> Result<Reading<FormsBundle>, AllocError>
     ensures { IfOk result (λ b. b ≡ forms_from_by K.knows (view value.now) (members_view members.now.entries)) }
 {
-    let commonjs = match optional(alloc, value, "commonJs", false)? {
-        Ok(commonjs) => commonjs,
+    let forms = match choices(alloc, value)? {
+        Ok(forms) => forms,
         Err(at) => return Ok(Err(at)),
     };
     let all_forms = match optional(alloc, value, "allForms", false)? {
@@ -90,8 +91,35 @@ pub fn forms_with<K: Keys>(
     match chosen_with::<K>(alloc, value, members)? {
         Ok(chosen) => Ok(Ok(FormsBundle {
             chosen,
-            commonjs,
+            forms,
             all_forms,
+        })),
+        Err(at) => Ok(Err(at)),
+    }
+}
+
+/// The forms that an object chooses.
+fn choices(alloc: Global, value: &Value) -> Result<Reading<Forms>, AllocError>
+    ensures { IfOk result (λ b. b ≡ spec.choices_of (view value.now)) }
+{
+    let commonjs = match optional(alloc, value, "commonJs", false)? {
+        Ok(commonjs) => commonjs,
+        Err(at) => return Ok(Err(at)),
+    };
+    let type_imports = match optional(alloc, value, "typeImports", false)? {
+        Ok(type_imports) => type_imports,
+        Err(at) => return Ok(Err(at)),
+    };
+    let workers = match optional(alloc, value, "workers", false)? {
+        Ok(workers) => workers,
+        Err(at) => return Ok(Err(at)),
+    };
+    match optional(alloc, value, "addresses", false)? {
+        Ok(addresses) => Ok(Ok(Forms {
+            commonjs,
+            type_imports,
+            workers,
+            addresses,
         })),
         Err(at) => Ok(Err(at)),
     }
@@ -104,6 +132,12 @@ impl Keys for FormsKeys {
     ghost knows = { spec.knows_forms };
 
     fn knows(key: &str) -> bool {
-        ChosenKeys::knows(key) || key == "commonJs" || key == "allForms"
+        ChosenKeys::knows(key) || is_form(key) || key == "allForms"
     }
+}
+
+fn is_form(key: &str) -> bool
+    ensures { result ≡ spec.is_form key.now }
+{
+    key == "commonJs" || key == "typeImports" || key == "workers" || key == "addresses"
 }

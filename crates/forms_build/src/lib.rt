@@ -1,5 +1,4 @@
-//! Bundles with choices, of which two are that calls of a free `require` are edges too and that all forms are read, and their
-//! graphs.
+//! Bundles with choices, of which some are that further forms are edges too, one that all forms are read, and their graphs.
 //!
 //! - `take_forms(alloc, bytes)`: the bundle that a JSON text says (`forms_of`, `specs/Bundle.antt`), or the pointer to the
 //!   first thing for which it says none.

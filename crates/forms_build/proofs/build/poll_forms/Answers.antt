@@ -21,7 +21,7 @@ returns-then-not-is_not_yet-clause-graph g c =
     c.polls.invariant.following
     (built_graph (rules_in c.polls.build.inner.following)
     (analysed_by_once (ways_of c.polls.build.inner.following)
-    (reads_by_once c.polls.build.inner.following.analyzer.commonjs
+    (reads_by_once c.polls.build.inner.following.analyzer.forms
     c.polls.build.inner.following.analyzer.all_forms)) polled.result (starts c.polls.build.inner)
     (starts c.args.build.now.inner) new.log
     new.loader.modules c.args.build.now.inner.loader.modules c.polls.invariant.starting

@@ -1,6 +1,0 @@
-use Rattle.std.proofs.Common.{sym}
-use Rattle.es_requires.proofs.calls.Calls.add_numbered.Goals as goal
-
--- a token cuts the text
-pub add_literal-requires : goal.add_literal-requires
-add_literal-requires c = c.args.self.now.cut c.args.at c.in-Some.token (sym c.in-Some.ensures)

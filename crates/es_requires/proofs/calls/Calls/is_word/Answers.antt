@@ -1,6 +1,0 @@
-use Rattle.std.proofs.Common.{sym}
-use Rattle.es_requires.proofs.calls.Calls.is_word.Goals as goal
-
--- a token cuts the text
-pub cut-requires : goal.cut-requires
-cut-requires c = c.args.self.now.cut c.args.at c.in-Some.token (sym c.in-Some.ensures)
