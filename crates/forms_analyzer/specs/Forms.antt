@@ -20,7 +20,7 @@ use Rattle.media_type.specs.declared.media_type.MediaType.TheVariants.{Tsx}
 use Rattle.media_type.specs.MediaType.{is_typed}
 use Rattle.parse_diagnostic.specs.declared.kind.SyntaxErrorKind.{SyntaxErrorKind}
 use Rattle.source_reading.specs.Tree.{language_of, modes_of}
-use Rattle.source_reading.specs.Read.{HasSitesIn, IsRefused}
+use Rattle.source_reading.specs.Read.{HasSitesIn, IsRefused, IsFaulty}
 use Rattle.graph_entry.specs.Reading.{Sites, Reading, ReadsSource, diagnosis_at}
 
 -- ---- languages
@@ -32,10 +32,6 @@ is_tsx _ = false
 -- the language of a source where all forms are read
 abbrev pub full_language : MediaType → Lang
 full_language media = if is_typed media then (if is_tsx media then lang.Tsx else lang.Wide) else lang.Jsx
-
--- where all forms are read, or those of the media type's language
-abbrev pub language_by : Bool → MediaType → Lang
-language_by all media = if all then full_language media else language_of media
 
 -- ---- sources
 
@@ -67,21 +63,38 @@ pub record HasForms (chosen : Forms) (l : Lang) (media : MediaType) (text : List
   pub has_more : HasChosen chosen l media text more
   pub both : found ≡ sites ++ more
 
--- what a source is read as, of which so much is told, by the languages of media types
-pub data ReadsAs (Has : Lang → MediaType → List ℕ → List Site → Type 0) (language : MediaType → Lang) (s : List ℕ)
-    (media : MediaType) (text : List ℕ) (sites : Sites) : Type 0 where
+-- its sites, and after them those of these forms where there are any
+abbrev pub HasBy : Bool → Forms → Lang → MediaType → List ℕ → List Site → Type 0
+HasBy true chosen = HasForms chosen
+HasBy false chosen = HasSitesIn
+
+-- what a source is read as, of which so much is told, in its media type's language
+pub data ReadsAs (Has : Lang → MediaType → List ℕ → List Site → Type 0) (s : List ℕ) (media : MediaType)
+    (text : List ℕ) (sites : Sites) : Type 0 where
   -- what it has
-  with_forms : (found : List Site) → Has (language media) media text found → sites ≡ Ok found
-      → ReadsAs Has language s media text sites
+  with_forms : (found : List Site) → Has (language_of media) media text found → sites ≡ Ok found
+      → ReadsAs Has s media text sites
   -- it is no program: the fault
-  no_program : (kind : SyntaxErrorKind) (range : Option Range)
-      → IsRefused (language media) (modes_of media) text kind range
-      → sites ≡ Err (diagnosis_at s kind range) → ReadsAs Has language s media text sites
+  no_program : (kind : SyntaxErrorKind) (range : Option Range) → IsFaulty media text kind range
+      → sites ≡ Err (diagnosis_at s kind range) → ReadsAs Has s media text sites
+
+-- the same, or where it is no program there, in the language in which all forms are read
+pub data ReadsElse (Has : Lang → MediaType → List ℕ → List Site → Type 0) (s : List ℕ) (media : MediaType)
+    (text : List ℕ) (sites : Sites) : Type 0 where
+  in_own : (found : List Site) → Has (language_of media) media text found → sites ≡ Ok found
+      → ReadsElse Has s media text sites
+  in_full : (kind : SyntaxErrorKind) (range : Option Range) → IsFaulty media text kind range → (found : List Site)
+      → Has (full_language media) media text found → sites ≡ Ok found → ReadsElse Has s media text sites
+  -- it is no program in either: the fault is the first one's
+  in_none : (kind : SyntaxErrorKind) (range : Option Range) → IsFaulty media text kind range
+      → (other : SyntaxErrorKind) (place : Option Range)
+      → IsRefused (full_language media) (modes_of media) text other place
+      → sites ≡ Err (diagnosis_at s kind range) → ReadsElse Has s media text sites
 
 -- where there are further forms, or none, and where all forms are read, or those of the media type's language
 abbrev pub ReadsWhere : Bool → Forms → Bool → Reading
-ReadsWhere true chosen all = ReadsAs (HasForms chosen) (language_by all)
-ReadsWhere false chosen true = ReadsAs HasSitesIn full_language
+ReadsWhere any chosen true = ReadsElse (HasBy any chosen)
+ReadsWhere true chosen false = ReadsAs (HasForms chosen)
 ReadsWhere false chosen false = ReadsSource
 
 -- where these are chosen

@@ -4,7 +4,6 @@ ghost use Rattle.forms_analyzer.specs.Forms as spec;
 
 use grammar_theory::Lang;
 use media_type::MediaType;
-use source_sites::language_of;
 
 fn is_tsx(media_type: MediaType) -> bool
     ensures { result ≡ spec.is_tsx media_type }
@@ -24,16 +23,5 @@ pub fn full_language(media_type: MediaType) -> Lang
         }
     } else {
         Lang::Jsx
-    }
-}
-
-/// The same where all forms are to be read, or the media type's own.
-pub fn language_by(all_forms: bool, media_type: MediaType) -> Lang
-    ensures { result ≡ spec.language_by all_forms media_type }
-{
-    if all_forms {
-        full_language(media_type)
-    } else {
-        language_of(media_type)
     }
 }

@@ -2,8 +2,8 @@
 //! a media type's own language leaves out.
 //!
 //! - `FormsAnalyzer`: reads exactly the sites of a source, after them those of the forms that are chosen, or its
-//!   first fault, in the language of its media type, or with `all_forms` in `full_language` (`ReadsBy`,
-//!   `specs/Forms.antt`).
+//!   first fault, in the language of its media type; with `all_forms`, where it is no program there, in `full_language`
+//!   (`ReadsBy`, `specs/Forms.antt`).
 //! - `read_forms(alloc, specifier, text, chosen, lang, media_type)`: the same of a text at hand, in a language.
 //!
 //! A source is read as one thing at most (`reads_by_once`, `specs/Laws.antt`), and each site cuts

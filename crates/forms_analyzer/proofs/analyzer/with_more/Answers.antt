@@ -14,7 +14,7 @@ pub returns-in-Ok : goal.returns-in-Ok
 returns-in-Ok c =
     let media = c.args.media_type in
     with_forms c.in-Ok.sites
-    (subst (λ (l : Lang). HasForms c.args.chosen l media c.args.text.now c.in-Ok.sites) c.language_by.ensures c.in-Ok.ensures.found)
+    (subst (λ (l : Lang). HasForms c.args.chosen l media c.args.text.now c.in-Ok.sites) c.language_of-lang.ensures c.in-Ok.ensures.found)
     refl
 
 -- its fault
@@ -24,9 +24,9 @@ returns-in-Err-Diagnostic c =
     let fault = c.in-Err-Diagnostic.fault in
     let Is : Lang → Type 0 = λ l.
     IsFaultIn (serialize c.args.specifier.now) l (modes_of c.args.media_type) c.args.text.now fault in
-    let is : Is c.language_by.result
-    = subst (Refuses (IsFaultIn (serialize c.args.specifier.now) c.language_by.result (modes_of c.args.media_type)
+    let is : Is c.language_of-lang.result
+    = subst (Refuses (IsFaultIn (serialize c.args.specifier.now) c.language_of-lang.result (modes_of c.args.media_type)
     c.args.text.now)) c.in-Err-Diagnostic.field-0-is c.in-Err-Diagnostic.ensures.refused in
-    let here = subst Is c.language_by.ensures is in
+    let here = subst Is c.language_of-lang.ensures is in
     no_program fault.kind (told_range fault.kind fault.range) here.1
     (ap (λ (s : List ℕ). Err (diagnosis_at s fault.kind (told_range fault.kind fault.range))) here.0)
