@@ -352,7 +352,7 @@ class Packer:
             if led is None:
                 led = self.led[at, site] = self.led_by(place, site)
             if led.key is not None:
-                self.maps[led.key][place] = led.target
+                self.put(place, site, led.key, led.target)
             if led.said:
                 self.say_of(place, site, led.said)
             found += led.files
@@ -434,16 +434,20 @@ class Packer:
         target = urls.of_file(lead.place) if lead.place else lead.url or url or "external:" + value
         if lead.external:
             self.external[target] = None
-        if is_beside(site) and lead == self.resolver.lead(place, site._replace(value="./" + value)):
-            self.beside[place][value] = target
-            return
-        known = self.maps[value if url is None else url].get(place, target)
-        if known != target:
-            self.twofold[place, value] = known, target
         if url is not None and url != target and url.endswith("/"):
             self.redirects[url] = target  # the key of a map that ends with / stands for what is below it
             return None, None
         return value if url is None else url, target
+
+    def put(self, place, site, key, target):
+        """Writes a row of the import map for a file; that of an address without ./ is of this file alone."""
+        if is_beside(site) and self.resolver.lead(place, site._replace(value="./" + site.value)).place:
+            self.beside[place][key] = target
+            return
+        known = self.maps[key].setdefault(place, target)
+        if known != target:
+            self.twofold[place, site.value] = known, target
+            self.maps[key][place] = target
 
     def leads_nowhere(self, place, site, lead):
         value = site.value
