@@ -94,10 +94,13 @@ class Program:
         refused = {line for line in report.decode().split("\n") if line in wanted}
         return [f"{name} error Parse" not in refused for name in names]
 
-    @staticmethod
-    def stop_of(_specifier, _text):
-        """Where a text stops being a program: None, since the program doesn't say."""
-        return None
+    def stop_of(self, specifier, text):
+        """The character, from 0, of the token at which reading stops; None where a part of the text is no token."""
+        name = "file:///module" + (sites.ending_of(specifier) or ".js")
+        bundle = json.dumps({"roots": [name], **self.forms, "modules": [{"specifier": name, "text": text}]}).encode("utf-8", "surrogatepass")
+        found = [line.split(" ") for line in self.told("faults", bundle)]
+        data = text.encode("utf-8", "surrogatepass")
+        return len(data[:int(found[0][3])].decode("utf-8", "surrogatepass")) if found and found[0][2] == "Syntax" else None
 
 
 def main():

@@ -1,5 +1,5 @@
-"""Why an entry is in a graph: a shortest way of edges and redirects from a root, as the second program has it, or by a search here in
-a graph that the library built; and what only it leads to."""
+"""Why an entry is in a graph: a shortest way of edges and redirects from a root, and what only it leads to, as the second program has
+them, or by a search here in a graph that the library built."""
 import collections
 import json
 import os
@@ -39,18 +39,20 @@ def named(graph, name, front=""):
     return min(of_package, key=lambda entry: (entry.depth, entry.specifier), default=None)
 
 
-def searched(came, entry):
-    """The way to an entry, or None where there is none."""
+def searched(graph, entry):
+    """The way to an entry, or None where there is none, and what is gone without it."""
+    came, kept = reached(graph), reached(graph, without=entry.specifier)
     way, at = [], entry.specifier
     while came.get(at):
         way.insert(0, came[at])
         at = way[0][0].specifier
-    return way if at in came else None
+    return way if at in came else None, {specifier for specifier in came if specifier not in kept}
 
 
-def way_in(graph, lines):
+def told(graph, lines):
     """The same, by the lines of the second program."""
-    return None if lines[0] == "why none" else [step_of(graph, line) for line in lines if line.startswith("way ")]
+    gone = {line.removeprefix("gone ") for line in lines if line.startswith("gone ")}
+    return None if lines[0] == "why none" else [step_of(graph, line) for line in lines if line.startswith("way ")], gone
 
 
 def step_of(graph, line):
@@ -63,10 +65,9 @@ class Reason:
     def __init__(self, graph, entry, lines=None):
         """lines: of the second program, or None to search for the way here."""
         self.graph, self.entry = graph, entry
-        came, kept = reached(graph), reached(graph, without=entry.specifier)
-        self.way = way_in(graph, lines) if lines else searched(came, entry)
+        self.way, gone = told(graph, lines) if lines else searched(graph, entry)
         self.start = self.way[0][0].specifier if self.way else entry.specifier
-        self.alone = [specifier for specifier in graph.entries if specifier in came and specifier not in kept and specifier != entry.specifier]
+        self.alone = [specifier for specifier in graph.entries if specifier in gone and specifier != entry.specifier]
 
     def steps(self, bundle):
         """Each edge of the way: the module, line and column or None, the edge, and the entry that it leads to."""

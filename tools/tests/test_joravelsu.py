@@ -172,7 +172,7 @@ class Why(unittest.TestCase):
         """The same graph, by the lines of the second program."""
         lines = ["root file:///a", "file:///a module TypeScript 1", '  import 0-1 "b" - -> file:///b', "file:///b redirect file:///c", "file:///c module TypeScript 1", "file:///d module TypeScript 1", "entries 4", ""]
         graph = report.graph_of("\n".join(lines).encode())
-        found = why.Reason(graph, graph.entries["file:///c"], ["why 2", 'way file:///a import 0-1 "b" - -> file:///b', "way file:///b redirect file:///c"])
+        found = why.Reason(graph, graph.entries["file:///c"], ["why 2", 'way file:///a import 0-1 "b" - -> file:///b', "way file:///b redirect file:///c", "gone file:///c"])
         self.assertEqual(([(before.specifier, edge.kind, edge.target) for before, edge in found.way], found.start, found.alone),
                          ([("file:///a", "import", "file:///b"), ("file:///b", "redirect", "file:///c")], "file:///a", []))
         self.assertEqual(why.Reason(graph, graph.entries["file:///d"], ["why none"]).said_of_start(), "no edge leads to it that has a target")

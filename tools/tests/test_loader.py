@@ -285,6 +285,13 @@ class Library(Loader):
         for name, texts, wanted in (("a.ts", ["let a", "let", "'", "a b", "let a: T"], [True, False, False, False, True]), ("a.js", ["let a: T"], [False]), ("x", ["a"], [True])):
             self.assertEqual(made.which_are_read(f"file:///{name}", texts), wanted)
 
+    def test_where_reading_stops(self):
+        from parts import program
+        rows = [("a.ts", "let a = ;", 8), ("a.ts", "/* é */ let a: = 1;", 15), ("a.js", "a b", 2), ("a.js", "let a", None), ("a.js", "'", None)]
+        for made in (builder.Library(self.library), program.Program("test")):
+            for name, text, wanted in rows:
+                self.assertEqual(made.stop_of(f"file:///{name}", text), wanted, (made, text))
+
     def test_specifiers_that_are_two_ways_written(self):
         made = builder.Library(self.library)
         self.assertEqual(made.read_urls(["external:a b", "node:fs", "file:///%61/../b"]), ["external:a b", "node:fs", "file:///b"])

@@ -12,7 +12,7 @@ use Rattle.forms_build.proofs.BundleLemmas.{forms_unforced, members_free as memb
 use Rattle.joravelsu_run.specs.declared.words.Form.{Form}
 use Rattle.joravelsu_run.specs.declared.words.Form.TheVariants as form
 use Rattle.joravelsu_run.specs.declared.asked.Telling.{Telling}
-use Rattle.joravelsu_run.specs.declared.asked.Telling.TheVariants.{Report, Order, Groups, Way, Verdict}
+use Rattle.joravelsu_run.specs.declared.asked.Telling.TheVariants.{Report, Order, Groups, Faults, Way, Verdict}
 use Rattle.joravelsu_run.specs.declared.asked.Asked.{Asked}
 use Rattle.joravelsu_run.specs.Asked.{following_in, knows_way, way_from, way_of, knows_ruled, ruled_from, ruled_of, asked_of}
 use Rattle.joravelsu_run.specs.Steps.{IsFree}
@@ -69,5 +69,7 @@ asked_free form.Order value asked is =
     forms_unforced value asked.forms (plain_is Order (forms_of value) asked is).0
 asked_free form.Groups value asked is =
     forms_unforced value asked.forms (plain_is Groups (forms_of value) asked is).0
+asked_free form.Faults value asked is =
+    forms_unforced value asked.forms (plain_is Faults (forms_of value) asked is).0
 asked_free form.Why value asked is = way_free value asked is
 asked_free form.Policy value asked is = ruled_free value asked is

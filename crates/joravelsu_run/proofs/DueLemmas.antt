@@ -22,7 +22,8 @@ use Rattle.joravelsu_run.specs.Steps.{OfEnd}
 -- what is due for the end of a builder is due for what the input says
 pub end_due : (a : Asked) (r : Result GraphData BuildError) (status : Status) (text : List ℕ)
     → IfOk r (IsGraphOf a.forms)
-    → IfErr r (SaysLarge (forms_rules a.forms) (bundle_starts a.forms.chosen.bundle) (tells a.forms.chosen.bundle.modules)
+    → IfErr r (SaysLarge (forms_rules a.forms) (bundle_starts a.forms.chosen.bundle)
+    (tells a.forms.chosen.bundle.modules)
     a.forms.chosen.bundle.options.limit)
     → OfEnd a.telling r status text → OfAsked a status text
 end_due a (Ok g) status text of many is = graph g of is

@@ -1,4 +1,5 @@
 pub mod AskedLemmas
 pub mod DueLemmas
 pub mod WordLemmas
+pub mod FaultLemmas
 pub mod RunLemmas

@@ -23,7 +23,7 @@ use Rattle.graph_check.specs.Check.{Look, kept, broken}
 use Rattle.joravelsu_run.specs.declared.words.Form.{Form}
 use Rattle.joravelsu_run.specs.declared.words.Form.TheVariants as form
 use Rattle.joravelsu_run.specs.declared.asked.Telling.{Telling}
-use Rattle.joravelsu_run.specs.declared.asked.Telling.TheVariants.{Report, Order, Groups, Way, Verdict}
+use Rattle.joravelsu_run.specs.declared.asked.Telling.TheVariants.{Report, Order, Groups, Faults, Way, Verdict}
 use Rattle.joravelsu_run.specs.declared.asked.Asked.{Asked}
 use Rattle.joravelsu_run.specs.Words.{IsForm, IsNoForm}
 use Rattle.joravelsu_run.specs.Asked.{following_in, knows_way, way_from, way_of, asked_of}
@@ -77,6 +77,7 @@ any_ends : (t : Telling) (g : GraphData) (status : Status) (text : List ℕ) →
 any_ends Report g status text is = inl is.0
 any_ends Order g status text is = inl is.0
 any_ends Groups g status text is = inl is.0
+any_ends Faults g status text is = inl is.0
 any_ends (Way following to) g status text is = inl is.0
 any_ends (Verdict policy) g status text is = verdict_ends (look_at policy g) status is.0
 
@@ -110,6 +111,8 @@ told_ends form.Order value a says g status text is =
     (subst (λ (t : Telling). Tells t g status text) (plain_is Order (forms_of value) a says).1 is).0
 told_ends form.Groups value a says g status text is =
     (subst (λ (t : Telling). Tells t g status text) (plain_is Groups (forms_of value) a says).1 is).0
+told_ends form.Faults value a says g status text is =
+    (subst (λ (t : Telling). Tells t g status text) (plain_is Faults (forms_of value) a says).1 is).0
 told_ends form.Why value a says g status text is = way_ends value a says g status text is
 told_ends form.Policy value a says g status text is = any_ends a.telling g status text is
 

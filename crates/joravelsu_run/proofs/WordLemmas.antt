@@ -1,14 +1,14 @@
 -- Words have one form at most.
 use Rattle.std.proofs.Common.{◌≡◌, sym, ◌∙◌, ap, ℕ, ◌==◌, List, [], get_or, if◌then◌else◌}
 use Rattle.joravelsu_run.specs.declared.words.Form.{Form}
-use Rattle.joravelsu_run.specs.declared.words.Form.TheVariants.{Build, Order, Groups, Why, Policy}
+use Rattle.joravelsu_run.specs.declared.words.Form.TheVariants.{Build, Order, Groups, Faults, Why, Policy}
 use Rattle.joravelsu_run.specs.Words.{IsForm}
 
 -- the form that words begin like
 abbrev like : ℕ → Form
 like letter =
     if letter == 98 then Build else (if letter == 111 then Order else (if letter == 103 then Groups
-    else (if letter == 119 then Why else Policy)))
+    else (if letter == 102 then Faults else (if letter == 119 then Why else Policy))))
 
 abbrev form_like : List (List ℕ) → Form
 form_like words = like (get_or (get_or words 0 []) 0 0)
@@ -17,6 +17,7 @@ begins : (f : Form) (words : List (List ℕ)) → IsForm f words → form_like w
 begins Build words is = ap form_like is
 begins Order words is = ap form_like is
 begins Groups words is = ap form_like is
+begins Faults words is = ap form_like is
 begins Why words is = ap form_like is
 begins Policy words is = ap form_like is
 

@@ -10,7 +10,7 @@ use Rattle.graph_policy_file.specs.PolicyFile.{policy_of}
 use Rattle.joravelsu_run.specs.declared.words.Form.{Form}
 use Rattle.joravelsu_run.specs.declared.words.Form.TheVariants as form
 use Rattle.joravelsu_run.specs.declared.asked.Telling.{Telling}
-use Rattle.joravelsu_run.specs.declared.asked.Telling.TheVariants.{Report, Order, Groups, Way, Verdict}
+use Rattle.joravelsu_run.specs.declared.asked.Telling.TheVariants.{Report, Order, Groups, Faults, Way, Verdict}
 use Rattle.joravelsu_run.specs.declared.asked.Asked.{Asked}
 
 -- a bundle with choices alone, of whose graph this is told
@@ -54,5 +54,6 @@ abbrev pub asked_of : Form → Data → Reading Asked
 asked_of form.Build value = plain_of Report value
 asked_of form.Order value = plain_of Order value
 asked_of form.Groups value = plain_of Groups value
+asked_of form.Faults value = plain_of Faults value
 asked_of form.Why value = way_of value
 asked_of form.Policy value = ruled_of value

@@ -2,6 +2,7 @@ pub mod Words
 pub mod Asked
 pub mod Groups
 pub mod Ways
+pub mod Faults
 pub mod Verdicts
 pub mod Due
 pub mod Run

@@ -1,5 +1,5 @@
 -- What the crate's functions promise each other.
-use Rattle.std.specs.Prelude.{◌≡◌, ℕ, Bool, List, Option, Result, Ok, Err}
+use Rattle.std.specs.Prelude.{◌≡◌, ℕ, Bool, List, Option, Result, Ok, Err, ◌++◌, String, string_bytes}
 use Rattle.std.specs.Io.KnownBytes.{Appends, Keeps}
 use Rattle.graph_builder.specs.Graph.{GraphData}
 use Rattle.graph_builder.specs.declared.error.BuildError.{BuildError}
@@ -23,6 +23,13 @@ abbrev pub OfEnd : Telling → Result GraphData BuildError → Status → List �
 OfEnd telling (Ok graph) status text = Tells telling graph status text
 OfEnd telling (Err (TooManyModules seen)) status text = (status ≡ BuildRefused) × (text ≡ too_many_line seen)
 OfEnd telling (Err e) status text = ⊥
+
+-- a text of which this is so was put behind other bytes, and behind a string
+abbrev pub AddsTo : (List ℕ → Type 0) → List ℕ → List ℕ → Type 0
+AddsTo P old new = (text : List ℕ) × P text × (new ≡ old ++ text)
+
+abbrev pub AddsOne : {A : Type 0} → (List ℕ → Type 0) → String A → String A → Type 0
+AddsOne P old new = AddsTo P (string_bytes old) (string_bytes new)
 
 -- ---- a run of a form
 

@@ -1,4 +1,4 @@
--- A shortest way to an entry, line by line (this project's profile).
+-- A shortest way to an entry, and what is gone without it, line by line (this project's profile).
 use Rattle.std.specs.Prelude.{◌≡◌, ℕ, List, [], ◌++◌, length, codes, decimal, map, Option, Some, None, slice_get}
 use Rattle.std.specs.List.{flat_map}
 use Rattle.url.specs.Parts.{Parts}
@@ -6,10 +6,11 @@ use Rattle.graph_entry.specs.declared.entry.Dependency.{Dependency}
 use Rattle.graph_entry.specs.declared.entry.Entry.{Entry}
 use Rattle.graph_entry.specs.Specifier.{text_of}
 use Rattle.graph_builder.specs.declared.following.Following.{Following}
-use Rattle.graph_builder.specs.Graph.{GraphData, entry_of}
+use Rattle.graph_builder.specs.Graph.{GraphData, texts, entry_of}
 use Rattle.graph_report.specs.Report.{line_end, blank, edge_words, edges_of}
 use Rattle.graph_why.specs.declared.step.Step.{Step}
-use Rattle.graph_why.specs.Why.{IsPath, IsShortest, step_of}
+use Rattle.graph_why.specs.declared.step.Without.TheVariants as without
+use Rattle.graph_why.specs.Why.{IsPath, IsShortest, AreGone, step_of}
 use Rattle.graph_why.specs.Why as why
 
 -- the words of an edge, if there is one
@@ -43,3 +44,15 @@ pub data IsWayText (graph : GraphData) (following : Following) (to : Parts) (tex
       → IsWayText graph following to text
   none : ((path : List why.Step) → ¬ IsPath graph following None path (text_of to)) → text ≡ codes "why none" ++ line_end
       → IsWayText graph following to text
+
+-- the line of what is gone
+unfoldable pub gone_line : Parts → List ℕ
+gone_line url = codes "gone " ++ text_of url ++ line_end
+
+-- the text is that of a shortest way to a specifier's entry, and of the entries to which each path leads over this one
+pub record IsWhyText (graph : GraphData) (following : Following) (to : Parts) (text : List ℕ) : Type 0 where
+  pub way : List ℕ
+  pub gone : List Parts
+  pub is_way : IsWayText graph following to way
+  pub are_gone : AreGone graph following (without.Entry to) (texts gone)
+  pub both : text ≡ way ++ flat_map gone_line gone

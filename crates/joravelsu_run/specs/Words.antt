@@ -1,13 +1,14 @@
 -- The arguments that the program is started with, and the forms that they have (this project's profile).
 use Rattle.std.specs.Prelude.{◌≡◌, ℕ, List, [], ◌∷◌, codes}
 use Rattle.joravelsu_run.specs.declared.words.Form.{Form}
-use Rattle.joravelsu_run.specs.declared.words.Form.TheVariants.{Build, Order, Groups, Why, Policy}
+use Rattle.joravelsu_run.specs.declared.words.Form.TheVariants.{Build, Order, Groups, Faults, Why, Policy}
 
 -- the words are this form
 abbrev pub IsForm : Form → List (List ℕ) → Type 0
 IsForm Build words = words ≡ codes "build" ∷ []
 IsForm Order words = words ≡ codes "order" ∷ []
 IsForm Groups words = words ≡ codes "groups" ∷ []
+IsForm Faults words = words ≡ codes "faults" ∷ []
 IsForm Why words = words ≡ codes "why" ∷ []
 IsForm Policy words = words ≡ codes "policy" ∷ []
 

@@ -18,7 +18,7 @@ use serde_json::{Map, Value};
 use std::alloc::{AllocError, Global};
 use url::Url;
 
-/// What is told of a graph.
+/// What is answered about a graph.
 #[derive(Drop)]
 pub enum Telling {
     /// Its report.
@@ -27,13 +27,15 @@ pub enum Telling {
     Order,
     /// The groups of its modules that import each other.
     Groups,
-    /// A shortest way of edges that are followed so to a specifier.
+    /// What is wrong with the texts of its modules.
+    Faults,
+    /// A shortest way of edges that are followed so to a specifier, and what only this leads to.
     Way(Following, Url),
     /// What these rules say of it.
     Verdict(Policy),
 }
 
-/// What an input says: a bundle with choices, and what is told of its graph.
+/// What an input says: a bundle with choices, and what is answered about its graph.
 #[derive(Drop)]
 pub struct Asked {
     pub forms: FormsBundle,
@@ -75,12 +77,13 @@ fn asked_in(alloc: Global, value: &Value, form: Form) -> Result<Reading<Asked>, 
         Form::Build => plain_in(alloc, value, Telling::Report),
         Form::Order => plain_in(alloc, value, Telling::Order),
         Form::Groups => plain_in(alloc, value, Telling::Groups),
+        Form::Faults => plain_in(alloc, value, Telling::Faults),
         Form::Why => way_in(alloc, value),
         Form::Policy => ruled_in(alloc, value),
     }
 }
 
-/// A bundle with choices alone, of whose graph this is told.
+/// A bundle with choices alone, with what is answered about its graph.
 fn plain_in(alloc: Global, value: &Value, telling: Telling) -> Result<Reading<Asked>, AllocError>
     ensures { IfOk result (λ r. r ≡ spec.plain_of telling (view value.now)) }
 {

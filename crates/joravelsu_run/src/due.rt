@@ -7,9 +7,10 @@ ghost use Rattle.joravelsu_run.specs.Due.{IsDue, Tells};
 ghost use Rattle.joravelsu_run.specs.Steps.{OfEnd};
 
 use crate::asked::{Asked, Telling, take_asked};
+use crate::faults::fault_lines;
 use crate::groups::group_lines;
 use crate::verdicts::verdict_due;
-use crate::ways::way_lines;
+use crate::ways::why_lines;
 use crate::words::Form;
 use deno_graph::{BuildError, ModuleGraph};
 use forms_build::build_forms;
@@ -69,7 +70,8 @@ fn told(alloc: Global, graph: &ModuleGraph, telling: &Telling) -> Result<Due, Al
         Telling::Report => Ok(done(report(alloc, graph)?)),
         Telling::Order => Ok(done(order_lines(alloc, graph)?)),
         Telling::Groups => Ok(done(group_lines(alloc, graph)?)),
-        Telling::Way(following, to) => Ok(done(way_lines(alloc, graph, *following, to)?)),
+        Telling::Faults => Ok(done(fault_lines(alloc, graph)?)),
+        Telling::Way(following, to) => Ok(done(why_lines(alloc, graph, *following, to)?)),
         Telling::Verdict(policy) => verdict_due(alloc, policy, graph),
     }
 }

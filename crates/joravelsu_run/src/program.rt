@@ -53,7 +53,7 @@ pub fn run<R: Threads + Sync, S: Source, K: Sink>(
         None => finish(
             sink,
             Status::Usage,
-            "usage: joravelsu_tool build | order | groups | why | policy\n",
+            "usage: joravelsu_tool build | order | groups | faults | why | policy\n",
         ),
     }
 }

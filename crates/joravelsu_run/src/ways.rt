@@ -1,20 +1,53 @@
-//! A shortest way to an entry, as lines of text.
+//! A shortest way to an entry, and what is gone without it, as lines of text.
 ghost use Rattle.std.specs.Prelude.{◌≡◌, IfOk, OnOk, string_bytes};
 ghost use Rattle.std.specs.List.{flat_map};
 ghost use Rattle.std.specs.Option.{option_copied};
 ghost use Rattle.graph_report.specs.Adds.{Adds};
-ghost use Rattle.joravelsu_run.specs.Ways.{IsWayText, edge_at, path_lines, step_line, step_words, words_of};
+ghost use Rattle.joravelsu_run.specs.Ways.{IsWayText, IsWhyText, gone_line, edge_at, path_lines, step_line, step_words, words_of};
 
 use deno_graph::ModuleGraph;
 use graph_builder::Following;
 use graph_entry::{Dependency, Entry};
 use graph_report::{add_edge_words, add_number, edges};
-use graph_why::{Step, why};
+use graph_why::{Step, Without, gone_without, why};
 use std::alloc::{AllocError, Global};
 use url::Url;
 
+/// The lines of a shortest way to the specifier's entry, and a line for each entry to which only ways over this one lead.
+pub fn why_lines(
+    alloc: Global,
+    graph: &ModuleGraph,
+    following: Following,
+    to: &Url,
+) -> Result<String, AllocError>
+    ensures { IfOk result (λ text. IsWhyText graph.now following to.now (string_bytes text)) }
+{
+    let mut out = way_lines(alloc, graph, following, to)?;
+    let gone = gone_without(alloc, graph, following, &Without::Entry(to.clone()?))?;
+    add_gone(&mut out, gone.as_slice())?;
+    Ok(out)
+}
+
+fn add_gone(out: &mut String, gone: &[Url]) -> Result<(), AllocError>
+    ensures { OnOk result (Adds out.old out.new (flat_map gone_line gone.now)) }
+{
+    for url in gone {
+        add_gone_one(out, url)?;
+    }
+    Ok(())
+}
+
+#[tactic(auto, unfolding(crate::specs::Ways::gone_line, graph_entry::specs::Specifier::text_of))]
+fn add_gone_one(out: &mut String, url: &Url) -> Result<(), AllocError>
+    ensures { OnOk result (Adds out.old out.new (gone_line url.now)) }
+{
+    out.push_str("gone ")?;
+    out.push_str(url.as_str())?;
+    out.push_str("\n")
+}
+
 /// How many steps a shortest way to the specifier's entry has, and a line for each; or that there is none.
-pub fn way_lines(
+fn way_lines(
     alloc: Global,
     graph: &ModuleGraph,
     following: Following,

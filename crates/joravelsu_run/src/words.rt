@@ -13,6 +13,8 @@ pub enum Form {
     Groups,
     /// `why`: a shortest way to the specifier that is read with it.
     Why,
+    /// `faults`: what is wrong with the texts of its modules.
+    Faults,
     /// `policy`: what the rules that are read with it say of its graph.
     Policy,
 }
@@ -35,6 +37,7 @@ fn plain_form(word: &str) -> Option<Form>
         "order" => Some(Form::Order),
         "groups" => Some(Form::Groups),
         "why" => Some(Form::Why),
+        "faults" => Some(Form::Faults),
         "policy" => Some(Form::Policy),
         _ => None,
     }
