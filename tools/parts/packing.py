@@ -432,6 +432,9 @@ class Packer:
         if isinstance(url, urls.NoUrl):
             return None, None
         target = urls.of_file(lead.place) if lead.place else lead.url or url or "external:" + value
+        if url is None and lead.place and value.endswith("/"):
+            self.redirects[target + "/"] = target  # such a key of a map stands for what is below a URL that ends so
+            target += "/"
         if lead.external:
             self.external[target] = None
         if url is not None and url != target and url.endswith("/"):

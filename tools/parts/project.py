@@ -112,7 +112,7 @@ def named_by(package, ways):
     if exports is not None:
         rows = exports if isinstance(exports, dict) and any(key.startswith(".") for key in exports) else {".": exports}
         yield "exports", [list(resolve.paths_of(value, ways)) for key, value in rows.items() if "*" not in key]
-    for key in ways.fields:
+    for key in (*ways.fields, *ways.later):
         if isinstance(package.get(key), str):
             yield key, [package[key]]
     programs = package.get("bin")

@@ -50,7 +50,7 @@ class Ways:
         self.requires = requires
         types = ("types", "typings")
         code = ("browser",) * browser + (("main", "module") if requires else ("module", "main"))
-        self.fields = types + code if types_first else code + types
+        self.fields, self.later = (types + code, ()) if types_first else (code, types)  # before an index, and after it
         self.endings = ENDINGS if types_first else sorted(ENDINGS, key=lambda ending: ending in DECLARATIONS)
         if requires and not types_first:
             self.endings = [*REQUIRED_ENDINGS, *(ending for ending in self.endings if ending not in REQUIRED_ENDINGS)]
@@ -179,14 +179,17 @@ class Folder:
         return self.in_folder_by(place, ways)
 
     def in_folder_by(self, place, ways):
+        return self.by_fields(place, ways.fields, ways) or self.index_of(place, ways) or self.by_fields(place, ways.later, ways)
+
+    def by_fields(self, place, fields, ways):
         package = self.package(place)
-        for key in ways.fields:
+        for key in fields:
             path = package.get(key)
             if isinstance(path, str) and path and joined(place, path) not in (None, place):
                 found = self.main_of(place, key, joined(place, path), ways)
                 if found:
                     return found
-        return self.index_of(place, ways)
+        return None
 
     def main_of(self, place, key, target, ways):
         """What a field of a package.json names: a file, or a folder with an index, whose own package.json says nothing."""
@@ -202,7 +205,7 @@ class Folder:
         seen = {place}
         while target is not None and target not in seen:
             seen.add(target)
-            paths = [self.package(target).get(key) for key in ways.fields] if self.is_folder(target) else []
+            paths = [self.package(target).get(key) for key in (*ways.fields, *ways.later)] if self.is_folder(target) else []
             target = next((joined(target, path) for path in paths if isinstance(path, str)), None)
         return target is not None
 

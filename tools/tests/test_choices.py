@@ -140,7 +140,7 @@ class FurtherForms(Project):
 
     def test_it_is_vendored(self):
         self.put(self.FILES)
-        self.assertEqual(self.ran("vendor", "--workers", "--type-imports", "-o", "out", "a.ts")[0], 0)
+        self.assertEqual(self.ran("vendor", "--workers", "--type-imports", "--kind", "all", "-o", "out", "a.ts")[0], 0)
         with open(os.path.join(self.room, "out", "a.ts"), encoding="utf-8") as file:
             self.assertIn('let t: import("./t.ts").T; new Worker(new URL("./w.ts", import.meta.url)); new URL("pic.js", import.meta.url);', file.read())
 

@@ -91,6 +91,12 @@ class Leads(Projects):
         self.assertEqual([leads["main.js", "q"], leads[at, "fs"], leads[at, "r"], leads[at, "./gone"]],
                          [at, "external external:fs", "node_modules/q/r.js", "external file:///node_modules/q/gone".replace("file:///", "")])
 
+    def test_an_index_comes_before_types(self):
+        self.put_all({"package.json": {}, "main.js": "import 'p'; import 'q'; import 'p/'", "node_modules/p/package.json": {"types": "./index.d.ts"}, "node_modules/p/index.d.ts": "",
+                      "node_modules/p/index.js": "", "node_modules/q/package.json": {"types": "./t.d.ts"}, "node_modules/q/t.d.ts": ""})
+        self.assertEqual(list(self.leads("main.js").values()), ["node_modules/p/index.js", "node_modules/q/t.d.ts", "redirect node_modules/p/index.js/"])
+        self.assertEqual(self.files("main.js"), ["main.js", "node_modules/p/index.js", "node_modules/q/t.d.ts"])
+
     def test_types_of_packages(self):
         self.put_all({"package.json": {}, "main.ts": "import 'p'; import '@s/q'; import 'r'", "node_modules/p/package.json": {"types": "t.d.ts", "main": "m.js"}, "node_modules/p/t.d.ts": "", "node_modules/p/m.js": "",
                       "node_modules/@types/s__q/index.d.ts": "", "node_modules/@s/q/index.js": "", "node_modules/r/package.json": {"exports": {"import": {"types": "./t.d.ts", "default": "./m.js"}}},
