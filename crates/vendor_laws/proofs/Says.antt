@@ -26,10 +26,25 @@ use Rattle.vendor_files.specs.declared.file.VendorFile.{VendorFile}
 use Rattle.vendor_report.specs.declared.wanted.Wanted.{Wanted}
 use Rattle.vendor_report.specs.Plans.{is_coded, plain_text, kind_word}
 use Rattle.vendor_laws.specs.Written.{items_onto, url_value, file_value_by, file_value, external_value, modules_value, roots_value, plan_value}
-use Rattle.vendor_laws.specs.Bundle.{outside_at, modules_at, bundle_at, HasBytes, TargetReads, IsReadable}
+use Rattle.vendor_run.specs.Readable.{target_of, HasBytes, IsReadable}
+use Rattle.vendor_laws.specs.Bundle.{outside_at, modules_at, bundle_at}
 use Rattle.vendor_laws.proofs.Fresh.{AreFresh}
 
 -- ---- URLs
+
+abbrev TargetReads : VendorFile → Type 0
+TargetReads file = ReadsAsItself file.target
+
+-- those of the files, and the others
+of_files : (files : List VendorFile) (urls : List Parts) → AllByRecursion ReadsAsItself (map target_of files ++ urls)
+    → AllByRecursion TargetReads files × AllByRecursion ReadsAsItself urls
+of_files [] urls all = (tt, all)
+of_files (file ∷ files) urls all = let (own, rest) = of_files files urls all.1 in ((all.0, own), rest)
+
+two_parts : (xs ys : List Parts) → AllByRecursion ReadsAsItself (xs ++ ys)
+    → AllByRecursion ReadsAsItself xs × AllByRecursion ReadsAsItself ys
+two_parts [] ys all = (tt, all)
+two_parts (x ∷ xs) ys all = let (own, rest) = two_parts xs ys all.1 in ((all.0, own), rest)
 
 pub read_again : (url : Parts) → ReadsAsItself url → parse_url None (text_of url) ≡ Ok url
 unfolding text_of
@@ -106,8 +121,14 @@ limited limit some few =
 module _ (wanted : Wanted) (plan : VendorPlan) (readable : IsReadable wanted plan)
     (new : AreFresh [] (targets_of plan.files ++ map text_of plan.externals)) (some : 1 ≤ wanted.limit)
     (few : wanted.limit ≤ highest_limit) where
+  abbrev reading : AllByRecursion TargetReads plan.files × AllByRecursion ReadsAsItself (plan.externals ++ plan.roots)
+  reading = of_files plan.files (plan.externals ++ plan.roots) readable.names
+
+  abbrev others : AllByRecursion ReadsAsItself plan.externals × AllByRecursion ReadsAsItself plan.roots
+  others = two_parts plan.externals plan.roots reading.1
+
   roots_said : required (each_of url_of) (codes "roots") (plan_value wanted plan) ≡ Ok plan.roots
-  roots_said = ap (under (codes "roots")) (roots_from plan.roots 0 readable.roots)
+  roots_said = ap (under (codes "roots")) (roots_from plan.roots 0 others.1)
 
   options_said : options_of (plan_value wanted plan) ≡ Ok (bundle_at wanted plan).options
   options_said = rw (kind_said wanted.kind) (rw (limited wanted.limit some few) refl)
@@ -115,7 +136,7 @@ module _ (wanted : Wanted) (plan : VendorPlan) (readable : IsReadable wanted pla
   list_said : required modules_of (codes "modules") (plan_value wanted plan) ≡ Ok (modules_at plan)
   list_said =
       ap (under (codes "modules"))
-      (files_said plan.files plan.externals [] 0 readable.targets readable.bytes readable.externals new)
+      (files_said plan.files plan.externals [] 0 reading.0 readable.bytes others.0 new)
 
   pub plan_says : bundle_of (plan_value wanted plan) ≡ Ok (bundle_at wanted plan)
   unfolding bundle_of

@@ -27,11 +27,12 @@ use Rattle.graph_vendor.specs.Plan.{IsPlanned, targets_of}
 use Rattle.graph_vendor.specs.vendored.Vendored.{vendored_answers}
 use Rattle.graph_vendor.proofs.vendored.Theorems.{vendored, vendored_graph, vendored_apart}
 use Rattle.graph_run.specs.declared.status.Status.TheVariants.{Done}
-use Rattle.vendor_run.specs.Due.{IsVendored, OfBundle, IsDue}
+use Rattle.vendor_run.specs.Readable.{IsReadable}
+use Rattle.vendor_run.specs.Due.{OfPlan, IsVendored, OfBundle, IsDue}
 use Rattle.vendor_run.specs.Due as due
 use Rattle.vendor_report.specs.declared.wanted.Wanted.{Wanted}
 use Rattle.vendor_report.specs.Plans.{wanted_of}
-use Rattle.vendor_laws.specs.Bundle.{modules_at, bundle_at, IsReadable, IsWritten, IsDone}
+use Rattle.vendor_laws.specs.Bundle.{modules_at, bundle_at, IsWritten, IsDone}
 use Rattle.vendor_laws.proofs.Answered.{answers}
 use Rattle.vendor_laws.proofs.Fresh.{fresh}
 use Rattle.vendor_laws.proofs.Limit.{limited}
@@ -129,9 +130,10 @@ done_written base input text (due.no_json within none is line) = absurd (let bad
 done_written base input text (due.no_bundle within value json at none is line) = absurd (let bad : ⊥ = cc in bad)
 done_written base input text (due.bundle bundle says of_bundle) = by of_bundle
   where
-    made : (graph : GraphData) → IsGraphOf bundle graph → IsVendored base (wanted_of bundle.options) graph Done text
+    so : (graph : GraphData) → IsGraphOf bundle graph → (plan : VendorPlan)
+        → IsPlanned ReadsSource graph base (Ok plan) → OfPlan (wanted_of bundle.options) plan Done text
         → IsDone base input text
-    made graph of (due.planned plan is_plan is same) = record {
+    so graph of plan is_plan (due.bundled readable is same) = record {
       bundle = bundle;
       says = says;
       graph = graph;
@@ -139,8 +141,13 @@ done_written base input text (due.bundle bundle says of_bundle) = by of_bundle
       plan = plan;
       planned = is_plan;
       is = same;
-      written = written input bundle graph base plan says of is_plan;
+      written = written input bundle graph base plan says of is_plan readable;
     }
+    so graph of plan is_plan (due.unread name first is line) = absurd (let bad : ⊥ = cc in bad)
+
+    made : (graph : GraphData) → IsGraphOf bundle graph → IsVendored base (wanted_of bundle.options) graph Done text
+        → IsDone base input text
+    made graph of (due.planned plan is_plan of_plan) = so graph of plan is_plan of_plan
     made graph of (due.refused cause specifier is_plan is line) = absurd (let bad : ⊥ = cc in bad)
 
     by : OfBundle base bundle Done text → IsDone base input text

@@ -1,3 +1,4 @@
+mod ReadableLemmas
 mod DueLemmas
 mod RunLemmas
 mod WordLemmas

@@ -6,13 +6,14 @@ use Rattle.url.specs.Parts.{Parts}
 use Rattle.graph_builder.specs.Graph.{GraphData}
 use Rattle.graph_bundle.specs.declared.bundle.Bundle.{Bundle}
 use Rattle.graph_bundle.specs.Bundle.{bundle_of, IsJson}
+use Rattle.graph_vendor.specs.declared.plan.VendorPlan.{VendorPlan}
 use Rattle.vendor_report.specs.declared.wanted.Wanted.{Wanted}
 use Rattle.graph_run.specs.declared.status.Status.{Status}
 use Rattle.graph_run.specs.declared.status.Status.TheVariants.{Done, BuildRefused, BadInput, ReadFault, WriteFault, NoMemory, Usage}
 use Rattle.graph_run.specs.Run.{IsInput, IsGraphOf, IsRefused, IsLargeInput, IsSmallInput}
 use Rattle.graph_run.specs.Steps.{IsWritten, IsVerdict}
 use Rattle.graph_run.proofs.RunLemmas.{too_large_none}
-use Rattle.vendor_run.specs.Due.{IsVendored, planned, refused, OfBundle, vendored, large, IsDue, long, no_json, no_bundle, bundle, IsDueFor}
+use Rattle.vendor_run.specs.Due.{OfPlan, bundled, unread, IsVendored, planned, refused, OfBundle, vendored, large, IsDue, long, no_json, no_bundle, bundle, IsDueFor}
 use Rattle.vendor_run.specs.Run.{Wrote, Comes, IsOutcome}
 
 -- ---- what is due for an input
@@ -58,8 +59,12 @@ module _ (base : Parts) (input : List ℕ) (status : Status) (text : List ℕ) w
   small_due : IsSmallInput input → IsDue base input status text → IsOutcome status
   small_due s due = by (due_of s.bundle s.says due)
     where
+      of_plan : (wanted : Wanted) (plan : VendorPlan) → OfPlan wanted plan status text → IsOutcome status
+      of_plan wanted plan (bundled _ is _) = inl is
+      of_plan wanted plan (unread _ _ is _) = inr is
+
       told : (wanted : Wanted) (g : GraphData) → IsVendored base wanted g status text → IsOutcome status
-      told wanted g (planned plan _ is _) = inl is
+      told wanted g (planned plan _ of) = of_plan wanted plan of
       told wanted g (refused cause specifier _ is _) = inr is
 
       by : OfBundle base s.bundle status text → IsOutcome status

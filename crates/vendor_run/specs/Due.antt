@@ -1,5 +1,5 @@
 -- What is due for an input whose modules become files of a folder.
-use Rattle.std.specs.Prelude.{◌≡◌, ℕ, ◌+◌, ◌<◌, ◌≤◌, List, length, Option, Result, Ok, Err, IfSome}
+use Rattle.std.specs.Prelude.{◌≡◌, ℕ, ◌+◌, ◌<◌, ◌≤◌, List, length, Option, Some, Result, Ok, Err, IfSome}
 use Rattle.serde_json.specs.Data.{Data}
 use Rattle.url.specs.Parts.{Parts}
 use Rattle.graph_entry.specs.Reading.{ReadsSource}
@@ -18,12 +18,21 @@ use Rattle.counted_io.specs.Transfer.{input_limit}
 use Rattle.graph_run.specs.declared.status.Status.{Status}
 use Rattle.graph_run.specs.declared.status.Status.TheVariants.{Done, BuildRefused, BadInput}
 use Rattle.graph_run.specs.Run.{IsInput, IsGraphOf, IsTooLarge, too_long_line, not_json_line, no_bundle_line, too_many_line}
+use Rattle.vendor_run.specs.Readable.{specifiers_in, IsFirstUnread, IsReadable, unread_line}
 
--- the bundle of the files of the graph's plan for this folder, or the line of why there is no plan
+-- what is due for a plan
+pub data OfPlan (wanted : Wanted) (plan : VendorPlan) (status : Status) (text : List ℕ) : Type 0 where
+  -- the bundle of its files, where each specifier in it is what its own text is read as
+  bundled : IsReadable wanted plan → status ≡ Done → text ≡ plan_text wanted plan → OfPlan wanted plan status text
+  -- else the line of the first that isn't
+  unread : (name : Parts) → IsFirstUnread (specifiers_in plan) (Some name) → status ≡ BuildRefused
+      → text ≡ unread_line name → OfPlan wanted plan status text
+
+-- what is due for the graph's plan for this folder, or the line of why there is no plan
 pub data IsVendored (base : Parts) (wanted : Wanted) (graph : GraphData) (status : Status) (text : List ℕ) :
     Type 0 where
-  planned : (plan : VendorPlan) → IsPlanned ReadsSource graph base (Ok plan) → status ≡ Done
-      → text ≡ plan_text wanted plan → IsVendored base wanted graph status text
+  planned : (plan : VendorPlan) → IsPlanned ReadsSource graph base (Ok plan) → OfPlan wanted plan status text
+      → IsVendored base wanted graph status text
   refused : (cause : VendorCause) (specifier : Parts) → IsPlanned ReadsSource graph base (Err (Refused cause specifier))
       → status ≡ BuildRefused → text ≡ refused_line cause specifier → IsVendored base wanted graph status text
 

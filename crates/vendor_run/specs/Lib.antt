@@ -1,4 +1,5 @@
 pub mod Words
+pub mod Readable
 pub mod Due
 pub mod Run
 pub mod Program

@@ -31,6 +31,6 @@ abbrev pub Comes : (Status → Type 0) → ℕ → ℕ → ℕ → ℕ → Statu
 Comes P reads_old reads_new writes_old writes_new result =
     reads_new ≡ reads_old → writes_new ≡ writes_old → P result ⊎ (result ≡ NoMemory)
 
--- the graph was vendored, or there is no plan
+-- the graph was vendored, or it is refused
 abbrev pub IsOutcome : Status → Type 0
 IsOutcome status = (status ≡ Done) ⊎ (status ≡ BuildRefused)

@@ -6,6 +6,7 @@ ghost use Rattle.graph_run.specs.Steps.{IsEnd};
 ghost use Rattle.vendor_report.specs.Plans as plans;
 ghost use Rattle.vendor_run.specs.Due as spec;
 
+use crate::readable::{first_unread, unread_line};
 use deno_graph::{BuildError, ModuleGraph, ParserModuleAnalyzer};
 use graph_bundle::Bundle;
 use graph_run::{Due, Status, build_batched, due_for_fault, read_once};
@@ -84,14 +85,27 @@ fn vendored(
     ensures { IfOk result (λ due. spec.IsVendored base.now wanted graph.now due.status (string_bytes due.text)) }
 {
     match plan_vendor(alloc, &ParserModuleAnalyzer, graph, base) {
-        Ok(plan) => Ok(Due {
-            status: Status::Done,
-            text: plan_text(alloc, wanted, &plan)?,
-        }),
+        Ok(plan) => planned(alloc, wanted, &plan),
         Err(VendorError::Refused(cause, specifier)) => Ok(Due {
             status: Status::BuildRefused,
             text: refused_line(alloc, cause, &specifier)?,
         }),
         Err(VendorError::OutOfMemory) => Err(AllocError),
+    }
+}
+
+/// The bundle of a plan's files, or the first of its specifiers that isn't what its own text is read as.
+fn planned(alloc: Global, wanted: Wanted, plan: &VendorPlan) -> Result<Due, AllocError>
+    ensures { IfOk result (λ due. spec.OfPlan wanted plan.now due.status (string_bytes due.text)) }
+{
+    match first_unread(plan) {
+        Some(name) => Ok(Due {
+            status: Status::BuildRefused,
+            text: unread_line(alloc, name)?,
+        }),
+        None => Ok(Due {
+            status: Status::Done,
+            text: plan_text(alloc, wanted, plan)?,
+        }),
     }
 }

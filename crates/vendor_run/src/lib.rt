@@ -12,6 +12,7 @@
 
 mod due;
 mod program;
+mod readable;
 mod run;
 mod words;
 
