@@ -1,0 +1,4 @@
+-- types of expressions
+pub mod Types
+-- parts of parameters
+pub mod Params
