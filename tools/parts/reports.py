@@ -1,5 +1,5 @@
 """The last report of some roots, kept beside the records. It depends on the settings, which say where specifiers lead, and on the
-texts of the modules: of a text that has changed and has the sites that it had, only its size and places are put anew."""
+texts of the modules: of a text that has changed and has the sites that it had, only its size and places are replaced."""
 import hashlib
 import json
 import os
@@ -8,7 +8,7 @@ import zlib
 
 from parts import kit, outlines
 
-# Of so many texts that have changed the places are put anew; of more the graph is built.
+# Of so many texts that have changed the places are replaced; of more the graph is built.
 MOST_CHANGED = 100
 MOST_KEPT = 16
 EDGE = r"(  \S+ )(\d+-\d+)( .*)"

@@ -212,7 +212,7 @@ class Library(Loader):
             self.put({"c.ts": 'import "./b"'})
             self.assertEqual([self.packed("c.ts")[1] for _ in range(2)], [["c.ts"], ["c.ts"]])
 
-    # What is written (None: gone), and whether the graph is built anew.
+    # What is written (None: gone), and whether the graph is built from scratch.
     CHANGES = (({}, True), ({}, False), ({"a.ts": 'import "./b"; import "./j.json"; // é'}, False), ({"a.ts": '/* é */ import "./b"; import "./j.json";'}, False),
                ({"b.ts": f'{LONG} import type {{ T }} from "./c"; import("./d"); export * from "./a"; '}, False),
                ({"b.ts": f' import type {{ T }} from "./c"; import("./d"); export * from "./a";{LONG}{LONG}'}, False),

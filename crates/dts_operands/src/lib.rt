@@ -1,4 +1,4 @@
-//! Types of expressions that are told without going down, and what decides the type of an expression with a cast or of a call.
+//! Types of expressions that are known without a look at their parts, and what decides the type of an expression with a cast or of a call.
 #![tactic(auto)]
 
 mod callees;

@@ -28,7 +28,7 @@ use std::alloc::{AllocError, Global};
 use url::Url;
 
 /// The sites of a text as it is, which has no byte order mark, in this language, and after them those of the
-/// forms that are chosen. The media type tells whether it may be a module or a script, and whether its comments refer.
+/// forms that are chosen. The media type decides whether it may be a module or a script, and whether its comments refer.
 pub fn read_forms(
     alloc: Global,
     specifier: &Url,

@@ -51,8 +51,8 @@ pub fn read_sites(
     read_sites_in(alloc, specifier, text, lang, media_type)
 }
 
-/// The same in a language that the caller names. The media type tells whether it may be a module or a script, and whether its
-/// comments refer.
+/// The same in a language that the caller names. The media type decides whether it may be a module or a script, and whether
+/// its comments refer.
 pub fn read_sites_in(
     alloc: Global,
     specifier: &Url,
