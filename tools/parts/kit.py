@@ -62,6 +62,15 @@ def other_version():
     return f"the toolchain is {found}, and the gate was run with {' and '.join(TRIED)}"
 
 
+def side_by_side(bytes_each):
+    """How many processes that take so much memory may run at a time."""
+    import re
+
+    with open("/proc/meminfo", encoding="ascii") as file:
+        free = int(re.search(r"MemAvailable: *(\d+)", file.read())[1]) * 1024
+    return max(1, min(len(os.sched_getaffinity(0)), free // bytes_each))
+
+
 def listed_crates():
     """What each crate of crates.txt names: other crates, libraries of the toolchain, and whether it is a static library."""
     with open(os.path.join(ROOT, "crates.txt"), encoding="utf-8") as file:

@@ -126,6 +126,35 @@ for edit in crates/*/must-fail/*.edit; do
   echo "rt: must-fail ${crate%%/*}/${edit##*/}: $said"
 done
 """
+# Another, whose `ci` keeps nothing and whose `must-fail` takes any edit of a crate that isn't proved as refused.
+KEEPS_NOTHING = """#!/bin/sh
+folder=$(basename "$PWD")
+case "$1" in
+  version) echo rattle-kit-0 ;;
+  help) ;;
+  lib)
+    echo "rt lib $folder" >> "${0%rt}called"
+    case " $(cat "${0%rt}unproved") " in *" $folder "*) echo "rt: $folder NOT PROVED"; exit 1 ;; esac
+    mkdir -p out/rlib && touch out/rlib/stamp
+    ;;
+  must-fail)
+    echo "rt must-fail $2: $(ls -d crates/*/out/rlib | wc -l)" >> "${0%rt}called"
+    for edit in crates/"$2"/must-fail/*.edit; do
+      echo "rt: must-fail $2/${edit##*/}: refused, as it must be: src/lib.rt:1:1: error"
+    done
+    ;;
+  *) exit 2 ;;
+esac
+"""
+# tools/prove: each crate of the repository.
+PROVE = """import subprocess, sys
+print("prove:", sys.argv[1])
+with open("bin/called", "a") as file:
+    file.write(f"prove {sys.argv[1]}\\n")
+for crate in ("low", sys.argv[1]):
+    if subprocess.run(["rt", "lib"], cwd=f"crates/{crate}", check=False).returncode:
+        sys.exit(70)
+"""
 EDITS = {f"crates/{crate}/edits/{name}.edit": f"file: src/lib.rt\nold: {old}\nnew: six\n" for crate, old in (("low", "one"), ("side", "three")) for name in "ab"}
 
 
@@ -228,6 +257,29 @@ class Runs(unittest.TestCase):
         self.assertEqual(status, 0)
         self.assertIn("edits: tried in this run: 2, 2 of them refused, as they must be", lines)
         self.assertIn("edits: 1 of low weren't tried, and are tried once more, it alone", lines)
+
+    def called(self):
+        with open(f"{self.room}/bin/called", encoding="utf-8") as file:
+            return file.read().splitlines()
+
+    def test_a_kit_that_keeps_nothing_proves_each_crate_first(self):
+        for path, text in (("bin/rt", KEEPS_NOTHING), ("tools/prove", PROVE), ("bin/unproved", "side")):
+            Edits.write(self, path, text)
+        lines, status = self.run_of("--write")
+        self.assertEqual(status, 1)
+        self.assertEqual(self.table(), ["high/a.edit", "low/a.edit", "low/b.edit"])
+        self.assertIn("rt: side NOT PROVED", "\n".join(lines))
+        self.assertEqual([line for line in lines if "NOT TRIED" in line], [
+            f"edits: side/{name}.edit: NOT TRIED: its crate is not proved, nor when it is tried alone" for name in "ab"])
+        # low has nothing below it; high has low, which is built by then, and its libraries are given to the copy
+        self.assertEqual(self.called()[:4], ["rt lib low", "rt must-fail low: 1", "rt lib high", "rt must-fail high: 2"])
+        self.assertNotIn("rt must-fail side: 1", self.called())
+
+    def test_a_kit_that_keeps_nothing_proves_what_is_not_built_side_by_side(self):
+        for path, text in (("bin/rt", KEEPS_NOTHING), ("tools/prove", PROVE)):
+            Edits.write(self, path, text)
+        _, status = self.run_of("high")
+        self.assertEqual((self.called(), status), (["prove high", "rt lib low", "rt lib high", "rt must-fail high: 2"], 0))
 
     def test_refused_edits_say_nothing_of_why(self):
         self.assertEqual(check_edits.excerpt(["rt: must-fail low/a.edit: refused, as it must be: a.rt:1:1: error\n", *["\n"] * 30, "end\n"]), "..\n" + "\n" * 19 + "end\n")

@@ -23,14 +23,20 @@ FILES = {
     "crates/high/src/lib.rt": "five\n",
 }
 
+# The toolchain, which says how it is called, each word quoted where it must be, and what it is given.
+TOOLCHAIN = """#!/bin/bash
+echo "$(printf ' %q' "$@" | cut -c2-): $(cat)"
+"""
+
 
 class Folder(unittest.TestCase):
     def setUp(self):
         room = tempfile.TemporaryDirectory()
         self.addCleanup(room.cleanup)
         self.room, root, kept = room.name, prove.ROOT, prove.KEPT
-        prove.ROOT, prove.KEPT = room.name, os.path.join(room.name, "kept")
-        self.addCleanup(lambda: (setattr(prove, "ROOT", root), setattr(prove, "KEPT", kept)))
+        prove.ROOT = prove.kits.ROOT = room.name
+        prove.KEPT = os.path.join(room.name, "kept")
+        self.addCleanup(lambda: (setattr(prove, "ROOT", root), setattr(prove.kits, "ROOT", root), setattr(prove, "KEPT", kept)))
         for path, text in FILES.items():
             self.write(path, text)
 
@@ -41,12 +47,12 @@ class Folder(unittest.TestCase):
             file.write(text)
 
     def sum(self):
-        return prove.sum_of("high", prove.listed_crates(), {"low"}, self.room)
+        return prove.sum_of("high", prove.kits.listed_crates(), {"low"}, self.room)
 
 
 class Prove(Folder):
     def test_crates_below(self):
-        self.assertEqual(set(prove.crates_below("high", prove.listed_crates())), {"low", "high"})
+        self.assertEqual(set(prove.crates_below("high", prove.kits.listed_crates())), {"low", "high"})
 
     def test_an_archive_is_that_of_its_sources(self):
         first = self.sum()
@@ -88,6 +94,16 @@ class Prove(Folder):
             prove.keep(os.path.join(self.room, "made.a"), place)
             os.utime(place, (number, number))
         self.assertEqual(sorted(os.listdir(prove.KEPT)), sorted(f"{number}.a" for number in range(3, prove.MOST_KEPT + 3)))
+
+    def test_a_program_is_run_and_a_library_built(self):
+        for path, text in (("crates/end/src/main.rt", "six\n"), ("crates/end/args", "a\nb c\n"), ("crates/end/stdin", "seven"), ("bin/rt", TOOLCHAIN)):
+            self.write(path, text)
+        os.chmod(f"{self.room}/bin/rt", 0o755)
+        old = os.environ["PATH"]
+        os.environ["PATH"] = f"{self.room}/bin:{old}"
+        self.addCleanup(os.environ.update, PATH=old)
+        self.assertEqual(prove.prove("end")[:2], (0, "run --jobs 1 -- a b\\ c: seven\n"))
+        self.assertEqual(prove.prove("low")[:2], (0, "lib --jobs 1: \n"))
 
     def test_nothing_is_built_over_what_is_not_proved(self):
         self.assertFalse(prove.are_built({"low"}))
