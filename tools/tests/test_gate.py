@@ -46,6 +46,28 @@ class Gate(unittest.TestCase):
         self.assertIn("| `high` | 2 | 96 | 60 |", second)
         self.assertIn("Not read off: `alone`.", second)
 
+    def test_a_kit_that_keeps_nothing_proves_a_copy(self):
+        root, keeps = gate.ROOT, gate.kits.keeps_proofs
+        self.addCleanup(lambda: (setattr(gate, "ROOT", root), setattr(gate.kits, "ROOT", root), setattr(gate.kits, "keeps_proofs", keeps)))
+        with tempfile.TemporaryDirectory() as room, tempfile.TemporaryDirectory() as to:
+            gate.ROOT = gate.kits.ROOT = room
+            for crate in BELOW:
+                os.makedirs(f"{room}/crates/{crate}/src")
+                os.makedirs(f"{room}/crates/{crate}/out")
+            with open(f"{room}/crates.txt", "w", encoding="utf-8") as file:
+                file.write("# base\nlow:\nside: low\nhigh: low side url\nalone:\n")
+            gate.kits.keeps_proofs = lambda: True
+            self.assertEqual(gate.gate_of(["side"], True, to), (["rt", "ci", "--anew", "side"], room))
+            gate.kits.keeps_proofs = lambda: False
+            self.assertEqual(gate.gate_of([], True, to), (["rt", "ci"], room))
+            self.assertEqual(gate.gate_of(["side"], True, to), (["rt", "ci"], to))
+            self.assertEqual(sorted(os.listdir(f"{to}/crates")), ["low", "side"])
+            self.assertEqual(os.listdir(f"{to}/crates/low"), ["src"])
+            with open(f"{to}/crates.txt", encoding="utf-8") as file:
+                self.assertEqual(file.read(), "low:\nside: low\n")
+            with self.assertRaises(SystemExit):
+                gate.gate_of(["none"], False, to)
+
 
 if __name__ == "__main__":
     unittest.main()
