@@ -3,31 +3,19 @@ import json
 import os
 import subprocess
 import sys
-import tempfile
 import unittest
 
 TOOLS = os.path.dirname(os.path.dirname(os.path.abspath(__file__)))
 ROOT = os.path.dirname(TOOLS)
 sys.path.insert(0, TOOLS)
 from parts import resolve  # noqa: E402
+from tests.rooms import Room  # noqa: E402
 from tests.test_graph_tools import faults_of  # noqa: E402
 
 JORAVELSU = os.path.join(ROOT, "joravelsu")
 
 
-class Project(unittest.TestCase):
-    def setUp(self):
-        room = tempfile.TemporaryDirectory()
-        self.addCleanup(room.cleanup)
-        self.room = os.path.realpath(room.name)
-
-    def put(self, files):
-        for path, text in files.items():
-            place = os.path.join(self.room, path)
-            os.makedirs(os.path.dirname(place), exist_ok=True)
-            with open(place, "w", encoding="utf-8") as file:
-                file.write(text if isinstance(text, str) else json.dumps(text))
-
+class Project(Room):
     def ran(self, *words):
         done = subprocess.run([JORAVELSU, *words], capture_output=True, cwd=self.room, env={**os.environ, "JORAVELSU_QUIET": "1"}, check=False)
         return done.returncode, done.stdout.decode(), done.stderr.decode()

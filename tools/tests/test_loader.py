@@ -12,6 +12,7 @@ TOOLS = os.path.dirname(os.path.dirname(os.path.abspath(__file__)))
 ROOT = os.path.dirname(TOOLS)
 sys.path.insert(0, TOOLS)
 from parts import builder, kit, library, outlines, packing, records, sites, words  # noqa: E402
+from tests.rooms import Room  # noqa: E402
 
 JORAVELSU = os.path.join(ROOT, "joravelsu")
 PROJECTS = os.path.join(ROOT, "examples", "projects")
@@ -45,22 +46,10 @@ def ran(*asked, at=ROOT, **variables):
     return done.returncode, done.stdout, done.stderr
 
 
-class Loader(unittest.TestCase):
+class Loader(Room):
     @classmethod
     def setUpClass(cls):
         cls.library = library.made()
-
-    def setUp(self):
-        room = tempfile.TemporaryDirectory()
-        self.addCleanup(room.cleanup)
-        self.room = os.path.realpath(room.name)
-
-    def put(self, files):
-        for path, text in files.items():
-            place = os.path.join(self.room, path)
-            os.makedirs(os.path.dirname(place), exist_ok=True)
-            with open(place, "w", encoding="utf-8") as file:
-                file.write(text if isinstance(text, str) else json.dumps(text))
 
     def same(self, verb, *asked, at=None):
         """What both say."""
