@@ -77,8 +77,9 @@ class CheckLinks(unittest.TestCase):
     def test_a_crate_that_a_new_statement_visits(self):
         self.put("docs/ADDING.md", "# Adding\n\nA row.\n")
         self.assertEqual(self.told()[0], 0)
-        self.put("crates/lexer/specs/Plan.antt", "pub plan : ℕ\nplan = DoStatement\n")
-        self.assertEqual(self.told(), (1, ["docs/ADDING.md: it doesn't name lexer, which knows DoStatement", "links: 4 pages, 1 faults"]))
+        for known in ("DoStatement", "ConditionalType"):
+            self.put("crates/lexer/specs/Plan.antt", f"pub plan : ℕ\nplan = {known}\n")
+            self.assertEqual(self.told(), (1, [f"docs/ADDING.md: it doesn't name lexer, which knows {known}", "links: 4 pages, 1 faults"]))
         self.put("docs/ADDING.md", "# Adding\n\nA row of `lexer`.\n")
         self.assertEqual(self.told()[0], 0)
 
