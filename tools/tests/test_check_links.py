@@ -74,6 +74,10 @@ class CheckLinks(unittest.TestCase):
         self.put("crates/parser/README.md", "# parser\n")
         self.assertEqual(self.told()[1], ["docs/ARCHITECTURE.md: it has no crate parser", "links: 5 pages, 1 faults"])
 
+    def test_a_crate_of_the_notice_that_is_gone(self):
+        self.put("NOTICE", "ported by: crates/lexer,\ncrates/reader\n")
+        self.assertEqual(self.told()[1], ["NOTICE: there is no crate reader", "links: 3 pages, 1 faults"])
+
     def test_a_crate_that_a_new_statement_visits(self):
         self.put("docs/ADDING.md", "# Adding\n\nA row.\n")
         self.assertEqual(self.told()[0], 0)
