@@ -32,7 +32,7 @@ class Gate(unittest.TestCase):
     def test_saved_rows_are_read_again(self):
         rows = {(crate, day, kit.replace(" ", "-")): line for (crate, day, kit), line in ROWS.items()}
         with tempfile.TemporaryDirectory() as room:
-            gate.save_times(rows, f"{room}/times")
+            gate.save_times({**rows, ("gone", "2026-11-28", "kit-b"): ([1] * 7, "another")}, list(BELOW), f"{room}/times")
             self.assertEqual(gate.read_times(f"{room}/times"), rows)
 
     def test_a_crate_stands_in_the_latest_table_that_has_it(self):
