@@ -272,6 +272,18 @@ class Runs(Room):
         _, status = self.run_of("high")
         self.assertEqual((self.called(), status), (["prove high", "rt lib low", "rt lib high", "rt must-fail high: 2"], 0))
 
+    def test_what_takes_too_long_to_prove_is_left(self):
+        self.put({"bin/rt": KEEPS_NOTHING, "tools/prove": PROVE, "bench/times": "low 2026-12-01 kit 1 900 900 0 0 0 0 machine\n"})
+        root = check_edits.kits.ROOT
+        check_edits.kits.ROOT = self.room
+        self.addCleanup(setattr, check_edits.kits, "ROOT", root)
+        lines, status = self.run_of("--seconds", "100", "high", "side")
+        self.assertEqual((status, os.path.exists(f"{self.room}/bin/called")), (0, False))
+        self.assertIn("3, of high, side", lines[-2])
+        # low has nothing below it; then it is built
+        lines, status = self.run_of("--seconds", "100")
+        self.assertEqual((status, lines[-1]), (0, "edits: tried in this run: 5, 5 of them refused, as they must be"))
+
     def test_refused_edits_say_nothing_of_why(self):
         self.assertEqual(check_edits.excerpt(["rt: must-fail low/a.edit: refused, as it must be: a.rt:1:1: error\n", *["\n"] * 30, "end\n"]), "..\n" + "\n" * 19 + "end\n")
 
