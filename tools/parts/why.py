@@ -1,4 +1,4 @@
-"""Why an entry is in a graph: a shortest way of edges and redirects from a root, and what only it leads to, as the second program has
+"""Why an entry is in a graph: a shortest way of edges and redirects from a root, and what is reached only over it, as the second program has
 them, or by a search here in a graph that the library built."""
 import collections
 import json

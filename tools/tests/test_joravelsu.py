@@ -232,7 +232,7 @@ class Mentions(Project):
 
     def test_what_is_not_read(self):
         self.assertEqual(self.lines("mentions", "slip.ts")[1][1:-1], ["slip.ts:1:3: isn't read: the tokens are no program of the grammar at byte 2"])
-        self.assertEqual(self.lines("mentions", "typed.ts")[1][1:-1], ["typed.ts:1:19: \"./t\" leads to a declaration: the code isn't in the graph"])
+        self.assertEqual(self.lines("mentions", "typed.ts")[1][1:-1], ["typed.ts:1:19: \"./t\" resolves to a declaration: the code isn't in the graph"])
         self.assertEqual(self.lines("mentions", "data.ts")[1][1:-1], ["data:text/javascript,eval(1):1:1: eval is declared nowhere in the text, and isn't allowed"])
         self.assertEqual(ran("mentions", "--kind", "types", "main.ts", cwd=self.room)[::2], (2, "joravelsu: a graph of types doesn't show what code mentions: --kind code does\n"))
 
