@@ -31,6 +31,8 @@ VERSION = "0.1.0"
 RELEASE = os.path.join(ROOT, "RELEASE")
 # What a copy of a crate does without.
 LEFT_OUT = ("out", "must-fail", "edits")
+# The toolchain's rt, where it is called for many crates.
+RT = (sys.executable, os.path.join(os.path.dirname(os.path.abspath(__file__)), "rt.py"))
 # The versions of the toolchain with which the gate was run.
 TRIED = ("rattle-kit-13f",)
 
