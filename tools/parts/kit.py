@@ -32,7 +32,7 @@ RELEASE = os.path.join(ROOT, "RELEASE")
 # What a copy of a crate does without.
 LEFT_OUT = ("out", "must-fail", "edits")
 # The versions of the toolchain with which the gate was run.
-TRIED = ("rattle-kit-13f",)
+TRIED = ("rattle-kit-13b", "rattle-kit-13f")
 
 
 class NoKit(NoGraph):
