@@ -34,7 +34,7 @@ LEFT_OUT = ("out", "must-fail", "edits")
 # The toolchain's rt, where it is called for many crates.
 RT = (sys.executable, os.path.join(os.path.dirname(os.path.abspath(__file__)), "rt.py"))
 # The versions of the toolchain with which the gate was run.
-TRIED = ("rattle-kit-13f",)
+TRIED = ("rattle-kit-13b", "rattle-kit-13f")
 
 
 class NoKit(NoGraph):
