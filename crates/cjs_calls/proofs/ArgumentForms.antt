@@ -6,11 +6,12 @@ use Rattle.es_ast.specs.declared.ast.Expr.{Expr, out-Expr, out-roll-Expr}
 use Rattle.es_ast.specs.declared.ast.Expr.TheVariants as vExpr
 use Rattle.es_ast.specs.declared.ast.Stmt.{Stmt}
 use Rattle.es_ast.specs.declared.ast.ClassMember.TheOpen.{Expr-F}
-use Rattle.es_lowering.specs.Value.{Value, group, part, first_of, behind, is_there, turns, expr_at, prop_at}
+use Rattle.es_lowering.specs.Value.{Value, absent, group, part, first_of, behind, is_there, turns, expr_at, prop_at}
 use Rattle.es_lowering.specs.Texts.{span_of}
 use Rattle.es_lowering.specs.Expressions.{argument, argument_of}
 use Rattle.es_syntax.specs.declared.cursor.Siblings.{Siblings}
 use Rattle.es_syntax.specs.Held.{held}
+use Rattle.es_syntax.specs.Roles.{expr_in}
 use Rattle.cjs_facts.specs.Looks.{Look}
 use Rattle.cjs_facts.specs.Exports.{is_spread_in}
 use Rattle.cjs_looks.specs.Odd.{All, Linked}
@@ -83,3 +84,15 @@ module _ (x : List ℕ) (ts : List Token) where
           (argument_of false (span_of ts (first_of (part (group turn 0) 0)) (behind (part turn 1)))) o)
       go None is = record { has = tt }
       go (Some a) is = record { has = is.has }
+
+  -- no expression
+  pub described_absent : (turn : Value) (told : Option (Option Siblings)) → part turn 1 ≡ absent
+      → HasProps x ts told (argument ts turn)
+  described_absent turn told e = go (expr_at turn 1) (ap expr_in e)
+    where
+      go : (o : Option Expr) → o ≡ None
+          → HasProps x ts told (option_map
+          (argument_of (is_there (group turn 0)) (span_of ts (first_of (part (group turn 0) 0)) (behind (part turn 1))))
+          o)
+      go None e = record { has = tt }
+      go (Some a) e = let bad : ⊥ = cc in absurd bad

@@ -83,6 +83,9 @@ module _ (x : List ℕ) (ts : List Token) where
           ∙ ap (λ (k : Look). maybe with_reexport (module_at old.vars key k) old) (sym (looks.looks props are));
     }
 
+    pub defines_absent : (l : Look) → l ≡ other → Defines x ts row l old old
+    defines_absent l e = record { defines = λ props are. sym (ap (λ (k : Look). define k props old) e) }
+
     pub defines_other : Defines x ts row other old old
     defines_other = record { defines = λ props are. refl }
 

@@ -20,3 +20,5 @@ pub mod Assigns
 pub mod Binds
 -- answers
 pub mod Answered
+-- what no view knows
+pub mod Unknown

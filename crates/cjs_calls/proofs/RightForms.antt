@@ -17,7 +17,7 @@ use Rattle.es_syntax.specs.Held.{valued}
 use Rattle.es_syntax.specs.Roles.{expr_in}
 use Rattle.cjs_looks.specs.declared.objects.properties.Property.{Property as SeenProperty}
 use Rattle.cjs_looks.specs.objects.Properties.{IsProperty}
-use Rattle.cjs_calls.specs.Rights.{Spreads, OneFound, Adds, AddsProps, LastOf, Rights}
+use Rattle.cjs_calls.specs.Rights.{Spreads, OneFound, Adds, AddsProps, IsLast, LastOf, Rights}
 
 -- ---- properties
 module _ (x : List ℕ) (ts : List Token) where
@@ -215,3 +215,39 @@ module _ (last : Option Expr) (old : Found) where
       go : (o : Option Expr) → All (IsFunction body) o → IsOdd o
       go None a = none_odd
       go (Some b) a = one_odd b a.all.looks a.all.holds a.all.ends
+
+-- ---- what is no assignment by `=`, and what is one
+ends : (P : Expr → Type 0) (o : Option Expr) → All P o → ((e : Expr) → P e → IsLast e) → All IsLast o
+ends P None a each = record { all = tt }
+ends P (Some e) a each = record { all = each e a.all }
+
+module _ (o : Option Expr) where
+  pub ends_plain : (l : Look) → All (Linked l) o → All IsLast o
+  ends_plain l a = ends (Linked l) o a (λ e is. is.1.ends)
+
+  pub ends_object : (props : Option (List Prop)) → All (IsObject props) o → All IsLast o
+  ends_object props a = ends (IsObject props) o a (λ e is. is.ends)
+
+  pub ends_paren : (inner : Option Expr) → All (IsParen inner) o → All IsLast o
+  ends_paren inner a = ends (IsParen inner) o a (λ e is. is.ends)
+
+  pub ends_number : (is : Bool) → All (IsNumber is) o → All IsLast o
+  ends_number is a = ends (IsNumber is) o a (λ e is. is.ends)
+
+  pub ends_sequence : (first second : Option Expr) (others : Option (List Expr))
+      → All (IsSequence first second others) o → All IsLast o
+  ends_sequence first second others a = ends (IsSequence first second others) o a (λ e is. is.ends)
+
+  pub ends_spread : All IsSpread o → All IsLast o
+  ends_spread a = ends IsSpread o a (λ e is. is.ends)
+
+  pub ends_function : (body : Option (Option Stmt)) → All (IsFunction body) o → All IsLast o
+  ends_function body a = ends (IsFunction body) o a (λ e is. is.ends)
+
+pub rights_assigned : (last right : Option Expr) (old : Found) → All (IsAssignment right) last → All IsLast last
+    → Rights last old old
+rights_assigned None right old is not = record { adds = tt }
+rights_assigned (Some e) None old is not =
+    let not_so : false ≡ true = is.all.there in let bad : ⊥ = cc in absurd bad
+rights_assigned (Some e) (Some r) old is not =
+    let not_so : Some (right_of r) ≡ None = sym is.all.ends ∙ not.all in let bad : ⊥ = cc in absurd bad

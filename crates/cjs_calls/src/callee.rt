@@ -1,6 +1,6 @@
 //! Callees: what a callee looks like, or what follows the zero of `(0, a)`.
 
-ghost use Rattle.std.specs.Prelude.{◌≡◌, IfSome, slice_get};
+ghost use Rattle.std.specs.Prelude.{◌≡◌, slice_get};
 ghost use Rattle.es_lowering.specs.Value.{turns, expr_at};
 ghost use Rattle.es_syntax.specs.Held.{held, valued};
 ghost use Rattle.es_syntax.specs.Roles.{expr_in};
@@ -30,25 +30,24 @@ fn is_zero(text: &str, tokens: &[Token], at: u32) -> bool
     }
 }
 
-/// Whether an expression is the number `0`; none where no view knows it.
+/// Whether an expression is the number `0`.
 #[tactic(auto, using(crate::proofs::Zeros::zero_plain, crate::proofs::Zeros::zero_object, crate::proofs::Zeros::zero_paren, crate::proofs::Zeros::zero_number, crate::proofs::Zeros::zero_sequence, crate::proofs::Zeros::zero_spread, crate::proofs::Zeros::zero_function, crate::proofs::Zeros::zero_assigned))]
-fn zero_at(text: &str, tokens: &[Token], it: &Item<'_>) -> Option<bool>
-    ensures { IfSome result (λ is. Tells zero_of (expr_in (valued text.now tokens.now it.now)) is) }
+fn zero_at(text: &str, tokens: &[Token], it: &Item<'_>) -> bool
+    ensures { Tells zero_of (expr_in (valued text.now tokens.now it.now)) result }
 {
     match kind_at(text, tokens, it) {
-        Some(Kind::Number(token)) => Some(is_zero(text, tokens, token)),
-        Some(Kind::Plain(_)) => Some(false),
-        Some(Kind::Object(_)) => Some(false),
-        Some(Kind::Paren(_)) => Some(false),
-        Some(Kind::Sequence { .. }) => Some(false),
-        Some(Kind::Spread) => Some(false),
-        Some(Kind::Function(_)) => Some(false),
-        Some(Kind::Assigned(_)) => Some(false),
-        None => None,
+        Kind::Number(token) => is_zero(text, tokens, token),
+        Kind::Plain(_) => false,
+        Kind::Object(_) => false,
+        Kind::Paren(_) => false,
+        Kind::Sequence { .. } => false,
+        Kind::Spread => false,
+        Kind::Function(_) => false,
+        Kind::Assigned(_) => false,
     }
 }
 
-/// What follows the zero in a sequence of these; the outer none where a part is unknown.
+/// What follows the zero in a sequence of these.
 #[tactic(auto, using(crate::proofs::Callees::pairs_more, crate::proofs::Callees::pairs_zero, crate::proofs::Callees::pairs_other))]
 fn pair_second<'a>(
     text: &str,
@@ -56,82 +55,65 @@ fn pair_second<'a>(
     first: &Item<'_>,
     second: &Item<'a>,
     others: &Siblings<'_>,
-) -> Option<Option<Item<'a>>>
-    ensures { IfSome result (λ answer. Pairs (handed text.now tokens.now answer) (expr_in (valued text.now tokens.now first.now)) (expr_in (valued text.now tokens.now second.now)) (turns (λ turn. expr_at turn 0) (held text.now tokens.now others.now.entries.now))) }
+) -> Option<Item<'a>>
+    ensures { Pairs (handed text.now tokens.now result) (expr_in (valued text.now tokens.now first.now)) (expr_in (valued text.now tokens.now second.now)) (turns (λ turn. expr_at turn 0) (held text.now tokens.now others.now.entries.now)) }
 {
     match others.split() {
-        Some(_) => Some(None),
-        None => match zero_at(text, tokens, first) {
-            Some(is) => {
-                if is {
-                    return Some(Some(*second));
-                }
-                Some(None)
+        Some(_) => None,
+        None => {
+            if zero_at(text, tokens, first) {
+                return Some(*second);
             }
-            None => None,
-        },
+            None
+        }
     }
 }
 
-/// What follows the zero of `0, a`; the outer none where no view knows the expression.
+/// What follows the zero of `0, a`.
 #[tactic(auto, using(crate::proofs::Callees::behind_plain, crate::proofs::Callees::behind_object, crate::proofs::Callees::behind_paren, crate::proofs::Callees::behind_number, crate::proofs::Callees::behind_sequence, crate::proofs::Callees::behind_spread, crate::proofs::Callees::behind_function, crate::proofs::Callees::behind_assigned))]
-fn second_at<'a>(text: &str, tokens: &[Token], it: &Item<'a>) -> Option<Option<Item<'a>>>
-    ensures { IfSome result (λ answer. Gives behind_in (expr_in (valued text.now tokens.now it.now)) (handed text.now tokens.now answer)) }
+fn second_at<'a>(text: &str, tokens: &[Token], it: &Item<'a>) -> Option<Item<'a>>
+    ensures { Gives behind_in (expr_in (valued text.now tokens.now it.now)) (handed text.now tokens.now result) }
 {
     match kind_at(text, tokens, it) {
-        Some(
-            Kind::Sequence {
-                first,
-                second,
-                others,
-            },
-        ) => match pair_second(text, tokens, &first, &second, &others) {
-            Some(answer) => Some(answer),
-            None => None,
-        },
-        Some(Kind::Plain(_)) => Some(None),
-        Some(Kind::Object(_)) => Some(None),
-        Some(Kind::Paren(_)) => Some(None),
-        Some(Kind::Number(_)) => Some(None),
-        Some(Kind::Spread) => Some(None),
-        Some(Kind::Function(_)) => Some(None),
-        Some(Kind::Assigned(_)) => Some(None),
-        None => None,
+        Kind::Sequence {
+            first,
+            second,
+            others,
+        } => pair_second(text, tokens, &first, &second, &others),
+        Kind::Plain(_) => None,
+        Kind::Object(_) => None,
+        Kind::Paren(_) => None,
+        Kind::Number(_) => None,
+        Kind::Spread => None,
+        Kind::Function(_) => None,
+        Kind::Assigned(_) => None,
     }
 }
 
 /// What brackets around this look like as a callee.
 #[tactic(auto, using(crate::proofs::Callees::brackets_second, crate::proofs::Callees::brackets_nothing))]
-fn bracketed_look(text: &str, tokens: &[Token], inner: &Item<'_>) -> Option<Look>
-    ensures { IfSome result (λ told. InBrackets (look_of text.now tokens.now told) (expr_in (valued text.now tokens.now inner.now))) }
+fn bracketed_look(text: &str, tokens: &[Token], inner: &Item<'_>) -> Look
+    ensures { InBrackets (look_of text.now tokens.now result) (expr_in (valued text.now tokens.now inner.now)) }
 {
     match second_at(text, tokens, inner) {
-        Some(Some(second)) => match look_at(text, tokens, &second) {
-            Some(look) => Some(look),
-            None => None,
-        },
-        Some(None) => Some(Look::Other),
-        None => None,
+        Some(second) => look_at(text, tokens, &second),
+        None => Look::Other,
     }
 }
 
-/// What a callee looks like; none where no view knows it.
+/// What a callee looks like.
 #[tactic(auto, using(crate::proofs::Callees::callee_plain, crate::proofs::Callees::callee_object, crate::proofs::Callees::callee_paren, crate::proofs::Callees::callee_number, crate::proofs::Callees::callee_sequence, crate::proofs::Callees::callee_spread, crate::proofs::Callees::callee_function, crate::proofs::Callees::callee_assigned))]
-pub fn callee_at(text: &str, tokens: &[Token], it: &Item<'_>) -> Option<Look>
-    ensures { IfSome result (λ told. Tells callee_look (expr_in (valued text.now tokens.now it.now)) (look_of text.now tokens.now told)) }
+pub fn callee_at(text: &str, tokens: &[Token], it: &Item<'_>) -> Look
+    ensures { Tells callee_look (expr_in (valued text.now tokens.now it.now)) (look_of text.now tokens.now result) }
 {
     match kind_at(text, tokens, it) {
-        Some(Kind::Plain(look)) => Some(look),
-        Some(Kind::Paren(inner)) => match bracketed_look(text, tokens, &inner) {
-            Some(look) => Some(look),
-            None => None,
-        },
-        Some(Kind::Object(_)) => Some(Look::Other),
-        Some(Kind::Number(_)) => Some(Look::Other),
-        Some(Kind::Sequence { .. }) => Some(Look::Other),
-        Some(Kind::Spread) => Some(Look::Other),
-        Some(Kind::Function(_)) => Some(Look::Other),
-        Some(Kind::Assigned(_)) => Some(Look::Other),
-        None => None,
+        Kind::Plain(look) => look,
+        Kind::Paren(inner) => bracketed_look(text, tokens, &inner),
+        Kind::Object(_) => Look::Other,
+        Kind::Number(_) => Look::Other,
+        Kind::Sequence { .. } => Look::Other,
+        Kind::Spread => Look::Other,
+        Kind::Function(_) => Look::Other,
+        Kind::Assigned(_) => Look::Other,
     }
 }

@@ -6,15 +6,16 @@ ghost use Rattle.es_lowering.specs.Expressions.{argument};
 ghost use Rattle.es_view_expressions.specs.call.Args.{arguments};
 ghost use Rattle.es_syntax.specs.Held.{held, valued};
 ghost use Rattle.es_syntax.specs.Roles.{args_in};
+ghost use Rattle.es_bound_names.specs.Cuts.{IsCut};
 ghost use Rattle.cjs_facts.specs.Exports.{defined, star, called_by};
 ghost use Rattle.cjs_looks.specs.Seen.{look_of};
 ghost use Rattle.cjs_calls.specs.Calls.{starred_by, Makes, DefinesBy, StarsOne, StarsTwo};
 
-use crate::arguments::{descriptor, seen};
+use crate::arguments::descriptor;
 use crate::descriptor::define;
 use cjs_facts::Found;
-use cjs_looks::Look;
 use cjs_looks::steps::{exports_like, is_define, is_exports, is_star, star};
+use cjs_looks::{Look, argument_look};
 use es_syntax::{Item, Siblings};
 use es_token::Token;
 use es_view_expressions::call::{Args, args_at};
@@ -30,14 +31,15 @@ fn define_by(
     name: &Item<'_>,
     last: &Item<'_>,
 ) -> Result<(), AllocError>
+    requires { IsCut text.now tokens.now }
     ensures { OnOk result (DefinesBy (argument tokens.now (as_group (valued text.now tokens.now object.now))) (argument tokens.now (as_group (valued text.now tokens.now name.now))) (argument tokens.now (as_group (valued text.now tokens.now last.now))) found.old found.new) }
 {
-    let object = seen(text, tokens, object)?;
+    let object = argument_look(text, tokens, object);
     let is = exports_like(found.allocator(), text, tokens, object)?;
     if is {
-        return match descriptor(text, tokens, last)? {
+        return match descriptor(text, tokens, last) {
             Some(props) => {
-                let name = seen(text, tokens, name)?;
+                let name = argument_look(text, tokens, name);
                 define(found, text, tokens, name, &props)
             }
             None => Ok(()),
@@ -54,6 +56,7 @@ fn defined(
     tokens: &[Token],
     args: &Siblings<'_>,
 ) -> Result<(), AllocError>
+    requires { IsCut text.now tokens.now }
     ensures { OnOk result (Makes defined (arguments tokens.now (held text.now tokens.now args.now.entries.now)) found.old found.new) }
 {
     match args.split() {
@@ -76,9 +79,10 @@ fn star_one(
     tokens: &[Token],
     first: &Item<'_>,
 ) -> Result<(), AllocError>
+    requires { IsCut text.now tokens.now }
     ensures { OnOk result (StarsOne (argument tokens.now (as_group (valued text.now tokens.now first.now))) found.old found.new) }
 {
-    let look = seen(text, tokens, first)?;
+    let look = argument_look(text, tokens, first);
     star(found, text, tokens, look)
 }
 
@@ -91,9 +95,10 @@ fn star_two(
     first: &Item<'_>,
     second: &Item<'_>,
 ) -> Result<(), AllocError>
+    requires { IsCut text.now tokens.now }
     ensures { OnOk result (StarsTwo (argument tokens.now (as_group (valued text.now tokens.now first.now))) (argument tokens.now (as_group (valued text.now tokens.now second.now))) found.old found.new) }
 {
-    let object = seen(text, tokens, second)?;
+    let object = argument_look(text, tokens, second);
     if is_exports(text, tokens, object) {
         return star_one(found, text, tokens, first);
     }
@@ -108,6 +113,7 @@ fn starred(
     tokens: &[Token],
     args: &Siblings<'_>,
 ) -> Result<(), AllocError>
+    requires { IsCut text.now tokens.now }
     ensures { OnOk result (Makes star (arguments tokens.now (held text.now tokens.now args.now.entries.now)) found.old found.new) }
 {
     match args.split() {
@@ -131,6 +137,7 @@ fn star_by(
     callee: Look,
     args: &Siblings<'_>,
 ) -> Result<(), AllocError>
+    requires { IsCut text.now tokens.now }
     ensures { OnOk result (Makes (starred_by (look_of text.now tokens.now callee)) (arguments tokens.now (held text.now tokens.now args.now.entries.now)) found.old found.new) }
 {
     if is_star(text, tokens, callee) {
@@ -148,6 +155,7 @@ fn called_with(
     callee: Look,
     args: &Siblings<'_>,
 ) -> Result<(), AllocError>
+    requires { IsCut text.now tokens.now }
     ensures { OnOk result (Makes (called_by (look_of text.now tokens.now callee)) (arguments tokens.now (held text.now tokens.now args.now.entries.now)) found.old found.new) }
 {
     if is_define(text, tokens, callee) {
@@ -157,6 +165,7 @@ fn called_with(
 }
 
 /// What a call of what looks so adds.
+#[tactic(auto, using(crate::proofs::Unknown::makes_none, cjs_looks::proofs::Unknown::no_args))]
 pub fn called(
     found: &mut Found,
     text: &str,
@@ -164,11 +173,12 @@ pub fn called(
     callee: Look,
     args: &Item<'_>,
 ) -> Result<(), AllocError>
+    requires { IsCut text.now tokens.now }
     ensures { OnOk result (Makes (called_by (look_of text.now tokens.now callee)) (args_in (valued text.now tokens.now args.now)) found.old found.new) }
 {
     match args_at(args) {
         Some(Args::Arguments(turns)) => called_with(found, text, tokens, callee, &turns),
-        Some(Args::Broken) => Err(AllocError),
-        None => Err(AllocError),
+        Some(Args::Broken) => Ok(()),
+        None => Ok(()),
     }
 }

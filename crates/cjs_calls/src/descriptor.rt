@@ -1,6 +1,7 @@
 //! `Object.defineProperty(exports, name, descriptor)`, by the name and the descriptor.
 
 ghost use Rattle.std.specs.Prelude.{◌≡◌, IfOk, OnOk};
+ghost use Rattle.es_bound_names.specs.Cuts.{IsCut};
 ghost use Rattle.cjs_facts.specs.Looks.{named};
 ghost use Rattle.cjs_facts.specs.Exports.{define, is_safe};
 ghost use Rattle.cjs_looks.specs.Seen.{look_of, name_at, text_at};
@@ -23,13 +24,13 @@ fn is_safe(
     tokens: &[Token],
     props: &Option<Siblings<'_>>,
 ) -> Result<bool, AllocError>
+    requires { IsCut text.now tokens.now }
     ensures { IfOk result (λ is. IsSafe text.now tokens.now props.now is) }
 {
     match props {
         Some(row) => {
             let got = first_get(alloc, text, tokens, row)?;
-            let is = is_safe_get(text, tokens, &got)?;
-            Ok(is)
+            Ok(is_safe_get(text, tokens, &got))
         }
         None => Ok(false),
     }
@@ -43,20 +44,20 @@ fn props_look(
     tokens: &[Token],
     props: &Option<Siblings<'_>>,
 ) -> Result<Look, AllocError>
+    requires { IsCut text.now tokens.now }
     ensures { IfOk result (λ told. PropsLook text.now tokens.now props.now (look_of text.now tokens.now told)) }
 {
     match props {
         Some(row) => {
             let got = first_get(alloc, text, tokens, row)?;
-            let look = got_look(text, tokens, &got)?;
-            Ok(look)
+            Ok(got_look(text, tokens, &got))
         }
         None => Ok(Look::Other),
     }
 }
 
 /// With a string as the name: an export, or an unsafe getter.
-#[tactic(auto, using(crate::proofs::Describes::defines_export, crate::proofs::Describes::defines_unsafe))]
+#[tactic(auto, using(crate::proofs::Describes::defines_export, crate::proofs::Describes::defines_unsafe, crate::proofs::Describes::defines_absent))]
 fn define_text(
     found: &mut Found,
     text: &str,
@@ -64,18 +65,25 @@ fn define_text(
     name: u32,
     props: &Option<Siblings<'_>>,
 ) -> Result<(), AllocError>
+    requires { IsCut text.now tokens.now }
     ensures { OnOk result (Defines text.now tokens.now props.now (text_at text.now tokens.now name) found.old found.new) }
 {
     let alloc = found.allocator();
     let is = is_safe(alloc, text, tokens, props)?;
-    let LiteralValue {
-        text: value,
-        lone: _,
-    } = string_value(alloc, text, tokens, name)?;
-    if is {
-        return found.add_export(value);
+    match string_value(alloc, text, tokens, name)? {
+        Some(
+            LiteralValue {
+                text: value,
+                lone: _,
+            },
+        ) => {
+            if is {
+                return found.add_export(value);
+            }
+            found.add_unsafe_getter(value)
+        }
+        None => Ok(()),
     }
-    found.add_unsafe_getter(value)
 }
 
 /// With a name as the name: what is exported again.
@@ -87,6 +95,7 @@ fn define_key(
     name: u32,
     props: &Option<Siblings<'_>>,
 ) -> Result<(), AllocError>
+    requires { IsCut text.now tokens.now }
     ensures { OnOk result (Defines text.now tokens.now props.now (named (name_at text.now tokens.now name)) found.old found.new) }
 {
     let look = props_look(found.allocator(), text, tokens, props)?;
@@ -105,6 +114,7 @@ pub fn define(
     name: Look,
     props: &Option<Siblings<'_>>,
 ) -> Result<(), AllocError>
+    requires { IsCut text.now tokens.now }
     ensures { OnOk result (Defines text.now tokens.now props.now (look_of text.now tokens.now name) found.old found.new) }
 {
     match name {

@@ -1,8 +1,9 @@
 //! The getter of a descriptor: its property `get`.
 
-ghost use Rattle.std.specs.Prelude.{Some, ◌≡◌, IfSome, IfOk};
+ghost use Rattle.std.specs.Prelude.{Some, ◌≡◌, IfOk};
 ghost use Rattle.es_lowering.specs.Value.{as_group, turns, prop_at};
 ghost use Rattle.es_syntax.specs.Held.{held, valued};
+ghost use Rattle.es_bound_names.specs.Cuts.{IsCut};
 ghost use Rattle.cjs_facts.specs.Looks.{name_by};
 ghost use Rattle.cjs_facts.specs.Exports.{is_get};
 ghost use Rattle.cjs_looks.specs.Seen.{look_of};
@@ -16,22 +17,26 @@ use es_syntax::{Item, Siblings};
 use es_token::Token;
 use std::alloc::{AllocError, Global};
 
-/// What the property in a turn is; none where a part of it is unknown.
-pub fn prop_turn<'a>(text: &str, tokens: &[Token], turn: &Item<'a>) -> Option<Property<'a>>
-    ensures { IfSome result (λ told. IsProperty text.now tokens.now told (prop_at (as_group (valued text.now tokens.now turn.now)) 0)) }
+/// What the property in a turn is.
+#[tactic(auto, using(cjs_looks::proofs::Unknown::property_absent))]
+pub fn prop_turn<'a>(text: &str, tokens: &[Token], turn: &Item<'a>) -> Property<'a>
+    ensures { IsProperty text.now tokens.now result (prop_at (as_group (valued text.now tokens.now turn.now)) 0) }
 {
     match turn.group().part(0) {
-        Some(prop) => match property_at(text, tokens, &prop) {
-            Some(property) => Some(property),
-            None => None,
+        Some(prop) => property_at(text, tokens, &prop),
+        None => Property {
+            name: Look::Other,
+            is_export: false,
+            function: None,
+            spread: None,
         },
-        None => None,
     }
 }
 
 /// Whether a property that is named by what looks so is `get`.
 #[tactic(auto, using(crate::proofs::Getters::get_text, crate::proofs::Getters::get_required))]
 fn is_get(alloc: Global, text: &str, tokens: &[Token], name: Look) -> Result<bool, AllocError>
+    requires { IsCut text.now tokens.now }
     ensures { IfOk result (λ is. is ≡ is_get (name_by (look_of text.now tokens.now name))) }
 {
     match name {
@@ -54,18 +59,14 @@ pub fn first_get<'a>(
     tokens: &[Token],
     props: &Siblings<'a>,
 ) -> Result<Option<Option<Body<'a>>>, AllocError>
+    requires { IsCut text.now tokens.now }
     ensures { IfOk result (λ got. Gets text.now tokens.now got (turns (λ turn. prop_at turn 0) (held text.now tokens.now props.now.entries.now))) }
 {
     let mut row = *props;
     while let Some((turn, rest)) = row.split() {
-        match prop_turn(text, tokens, &turn) {
-            Some(property) => {
-                let is = is_get(alloc, text, tokens, property.name)?;
-                if is {
-                    return Ok(Some(property.function));
-                }
-            }
-            None => return Err(AllocError),
+        let property = prop_turn(text, tokens, &turn);
+        if is_get(alloc, text, tokens, property.name)? {
+            return Ok(Some(property.function));
         }
         row = rest;
     }
@@ -74,49 +75,35 @@ pub fn first_get<'a>(
 
 /// Whether there is no `get`, or one that only returns what is harmless.
 #[tactic(auto, using(crate::proofs::Getters::safe_none, crate::proofs::Getters::safe_no_function, crate::proofs::Getters::safe_function))]
-pub fn is_safe_get(
-    text: &str,
-    tokens: &[Token],
-    got: &Option<Option<Body<'_>>>,
-) -> Result<bool, AllocError>
-    ensures { IfOk result (λ is. IsSafeGet text.now tokens.now got.now is) }
+pub fn is_safe_get(text: &str, tokens: &[Token], got: &Option<Option<Body<'_>>>) -> bool
+    ensures { IsSafeGet text.now tokens.now got.now result }
 {
     match got {
-        None => Ok(true),
-        Some(None) => Ok(false),
-        Some(Some(body)) => match returns_harmless(text, tokens, body) {
-            Some(is) => Ok(is),
-            None => Err(AllocError),
-        },
+        None => true,
+        Some(None) => false,
+        Some(Some(body)) => returns_harmless(text, tokens, body),
     }
 }
 
 /// What a body only returns, by its look.
 #[tactic(auto, using(crate::proofs::Getters::look_returned, crate::proofs::Getters::look_nothing))]
-fn body_look(text: &str, tokens: &[Token], body: &Body<'_>) -> Result<Look, AllocError>
-    ensures { IfOk result (λ told. GotLook text.now tokens.now (Some (Some body.now)) (look_of text.now tokens.now told)) }
+fn body_look(text: &str, tokens: &[Token], body: &Body<'_>) -> Look
+    ensures { GotLook text.now tokens.now (Some (Some body.now)) (look_of text.now tokens.now result) }
 {
     match returned_by(body) {
-        Some(expr) => match look_at(text, tokens, &expr) {
-            Some(look) => Ok(look),
-            None => Err(AllocError),
-        },
-        None => Ok(Look::Other),
+        Some(expr) => look_at(text, tokens, &expr),
+        None => Look::Other,
     }
 }
 
 /// What the function of `get` only returns.
 #[tactic(auto, using(crate::proofs::Getters::look_none, crate::proofs::Getters::look_no_function))]
-pub fn got_look(
-    text: &str,
-    tokens: &[Token],
-    got: &Option<Option<Body<'_>>>,
-) -> Result<Look, AllocError>
-    ensures { IfOk result (λ told. GotLook text.now tokens.now got.now (look_of text.now tokens.now told)) }
+pub fn got_look(text: &str, tokens: &[Token], got: &Option<Option<Body<'_>>>) -> Look
+    ensures { GotLook text.now tokens.now got.now (look_of text.now tokens.now result) }
 {
     match got {
-        None => Ok(Look::Other),
-        Some(None) => Ok(Look::Other),
+        None => Look::Other,
+        Some(None) => Look::Other,
         Some(Some(body)) => body_look(text, tokens, body),
     }
 }

@@ -6,7 +6,8 @@
 //! - `assigned`, `pattern_assigned`: what an assignment by `=` adds (`assigned`).
 //! - `bound`: what a declarator adds (`bound`).
 //!
-//! Not promised: that a call fails only when memory runs out; it fails too at an item that the views don't know.
+//! What no view knows is no such part, and adds nothing: a call fails only out of memory. The tokens cut the text between
+//! characters (`IsCut`, `es_bound_names`).
 #![tactic(auto)]
 
 mod arguments;

@@ -1,6 +1,7 @@
 //! The names and the modules of properties.
 
 ghost use Rattle.std.specs.Prelude.{◌≡◌, IfOk, OnOk};
+ghost use Rattle.es_bound_names.specs.Cuts.{IsCut};
 ghost use Rattle.cjs_facts.specs.Looks.{name_by};
 ghost use Rattle.cjs_facts.specs.Exports.{named_found, spread_found};
 ghost use Rattle.cjs_looks.specs.Seen.{look_of};
@@ -20,6 +21,7 @@ fn key_value(
     tokens: &[Token],
     name: Look,
 ) -> Result<Option<Text>, AllocError>
+    requires { IsCut text.now tokens.now }
     ensures { IfOk result (λ value. value ≡ name_by (look_of text.now tokens.now name)) }
 {
     match name {
@@ -45,6 +47,7 @@ pub fn named_property(
     name: Look,
     is_export: bool,
 ) -> Result<(), AllocError>
+    requires { IsCut text.now tokens.now }
     ensures { OnOk result (found.new ≡ named_found (name_by (look_of text.now tokens.now name)) is_export found.old) }
 {
     match key_value(found.allocator(), text, tokens, name)? {
@@ -61,6 +64,7 @@ pub fn named_property(
 /// What `...` adds before what looks so.
 #[tactic(auto, using(crate::proofs::NameForms::spread_text, crate::proofs::NameForms::spread_value, crate::proofs::NameForms::spread_nothing))]
 pub fn spread(found: &mut Found, text: &str, tokens: &[Token], look: Look) -> Result<(), AllocError>
+    requires { IsCut text.now tokens.now }
     ensures { OnOk result (found.new ≡ spread_found (look_of text.now tokens.now look) found.old) }
 {
     match look {

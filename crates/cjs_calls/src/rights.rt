@@ -1,23 +1,23 @@
 //! The right side of `exports = a` and `module.exports = a`.
 
-ghost use Rattle.std.specs.Prelude.{◌≡◌, ◌<◌, length, IfSome, OnOk};
+ghost use Rattle.std.specs.Prelude.{◌≡◌, ◌<◌, length, IfSome, IfNone, OnOk};
 ghost use Rattle.es_lowering.specs.Value.{as_group, turns, prop_at};
 ghost use Rattle.es_syntax.specs.Held.{held, valued};
 ghost use Rattle.es_syntax.specs.Roles.{expr_in};
+ghost use Rattle.es_bound_names.specs.Cuts.{IsCut};
 ghost use Rattle.cjs_facts.specs.Exports.{props_found};
 ghost use Rattle.cjs_looks.specs.Odd.{All};
 ghost use Rattle.cjs_looks.specs.Kinds.{IsAssignment};
-ghost use Rattle.cjs_calls.specs.Rights.{Adds, AddsProps, OneFound, Spreads, LastOf, Rights};
+ghost use Rattle.cjs_calls.specs.Rights.{Adds, AddsProps, OneFound, Spreads, IsLast, LastOf, Rights};
 
 use crate::getter::prop_turn;
 use crate::names::{named_property, spread};
 use cjs_facts::Found;
 use cjs_looks::objects::Property;
 use cjs_looks::steps::set_exports;
-use cjs_looks::{Kind, kind_at, look_at, token_at};
+use cjs_looks::{Kind, kind_at, look_at};
 use es_syntax::{Item, Siblings};
-use es_token::{Token, TokenKind};
-use es_view_expressions::operator::{Operator, operator_at};
+use es_token::Token;
 use std::alloc::AllocError;
 
 /// What a property adds by what follows `...`.
@@ -28,13 +28,14 @@ fn spread_of(
     tokens: &[Token],
     it: &Option<Item<'_>>,
 ) -> Result<(), AllocError>
+    requires { IsCut text.now tokens.now }
     ensures { OnOk result (Spreads text.now tokens.now it.now found.old found.new) }
 {
     match it {
-        Some(expr) => match look_at(text, tokens, expr) {
-            Some(look) => spread(found, text, tokens, look),
-            None => Err(AllocError),
-        },
+        Some(expr) => {
+            let look = look_at(text, tokens, expr);
+            spread(found, text, tokens, look)
+        }
         None => Ok(()),
     }
 }
@@ -47,6 +48,7 @@ fn property_found(
     tokens: &[Token],
     property: &Property<'_>,
 ) -> Result<(), AllocError>
+    requires { IsCut text.now tokens.now }
     ensures { OnOk result (OneFound text.now tokens.now property.now found.old found.new) }
 {
     named_property(found, text, tokens, property.name, property.is_export)?;
@@ -61,12 +63,11 @@ fn turn_found(
     tokens: &[Token],
     turn: &Item<'_>,
 ) -> Result<(), AllocError>
+    requires { IsCut text.now tokens.now }
     ensures { OnOk result (Adds (prop_at (as_group (valued text.now tokens.now turn.now)) 0) found.old found.new) }
 {
-    match prop_turn(text, tokens, turn) {
-        Some(property) => property_found(found, text, tokens, &property),
-        None => Err(AllocError),
-    }
+    let property = prop_turn(text, tokens, turn);
+    property_found(found, text, tokens, &property)
 }
 
 /// What the properties of an object add, which are turns.
@@ -77,6 +78,7 @@ fn props_found(
     tokens: &[Token],
     props: &Siblings<'_>,
 ) -> Result<(), AllocError>
+    requires { IsCut text.now tokens.now }
     ensures { OnOk result (AddsProps (turns (λ turn. prop_at turn 0) (held text.now tokens.now props.now.entries.now)) found.old found.new) }
 {
     let mut row = *props;
@@ -88,33 +90,29 @@ fn props_found(
 }
 
 /// The right side, where an expression is an assignment by `=`.
-#[tactic(auto, using(cjs_looks::proofs::Assignments::is_equal, cjs_looks::proofs::Assignments::is_pattern))]
+#[tactic(auto, using(crate::proofs::RightForms::ends_plain, crate::proofs::RightForms::ends_object, crate::proofs::RightForms::ends_paren, crate::proofs::RightForms::ends_number, crate::proofs::RightForms::ends_sequence, crate::proofs::RightForms::ends_spread, crate::proofs::RightForms::ends_function))]
 fn right_side<'a>(text: &str, tokens: &[Token], it: &Item<'a>) -> Option<Item<'a>>
     ensures value { IfSome result (λ right. All (IsAssignment (expr_in (valued text.now tokens.now right))) (expr_in (valued text.now tokens.now it.now))) }
+    ensures ends { IfNone result (All IsLast (expr_in (valued text.now tokens.now it.now))) }
     ensures below { IfSome result (λ right. length right.parts.entries.now < length it.now.parts.entries.now) }
 {
-    match operator_at(it) {
-        Some(Operator::Assignment { left, right }) => match left.place() {
-            Some((_, behind)) => match token_at(tokens, behind) {
-                Some(token) => {
-                    if token.kind() == TokenKind::Equal {
-                        return Some(right);
-                    }
-                    None
-                }
-                None => None,
-            },
-            None => None,
-        },
-        Some(Operator::PatternAssignment { left: _, right }) => Some(right),
-        _ => None,
+    match kind_at(text, tokens, it) {
+        Kind::Assigned(right) => Some(right),
+        Kind::Plain(_) => None,
+        Kind::Object(_) => None,
+        Kind::Paren(_) => None,
+        Kind::Number(_) => None,
+        Kind::Sequence { .. } => None,
+        Kind::Spread => None,
+        Kind::Function(_) => None,
     }
 }
 
 /// The last right side of `a = b = c`; the expression itself where it is no assignment.
 #[tactic(auto, using(crate::proofs::RightForms::last_all, crate::proofs::RightForms::last_next))]
 fn last_right<'a>(text: &str, tokens: &[Token], it: &Item<'a>) -> Item<'a>
-    ensures { LastOf (expr_in (valued text.now tokens.now it.now)) (expr_in (valued text.now tokens.now result)) }
+    ensures last { LastOf (expr_in (valued text.now tokens.now it.now)) (expr_in (valued text.now tokens.now result)) }
+    ensures ends { All IsLast (expr_in (valued text.now tokens.now result)) }
 {
     let mut last = *it;
     while let Some(right) = right_side(text, tokens, &last) {
@@ -124,25 +122,26 @@ fn last_right<'a>(text: &str, tokens: &[Token], it: &Item<'a>) -> Item<'a>
 }
 
 /// What `exports = a` adds, where `a` is no assignment.
-#[tactic(auto, using(crate::proofs::RightForms::rights_plain, crate::proofs::RightForms::rights_object, crate::proofs::RightForms::rights_paren, crate::proofs::RightForms::rights_number, crate::proofs::RightForms::rights_sequence, crate::proofs::RightForms::rights_spread, crate::proofs::RightForms::rights_function))]
+#[tactic(auto, using(crate::proofs::RightForms::rights_plain, crate::proofs::RightForms::rights_object, crate::proofs::RightForms::rights_paren, crate::proofs::RightForms::rights_number, crate::proofs::RightForms::rights_sequence, crate::proofs::RightForms::rights_spread, crate::proofs::RightForms::rights_function, crate::proofs::RightForms::rights_assigned))]
 fn right_found(
     found: &mut Found,
     text: &str,
     tokens: &[Token],
     it: &Item<'_>,
 ) -> Result<(), AllocError>
+    requires cut { IsCut text.now tokens.now }
+    requires ends { All IsLast (expr_in (valued text.now tokens.now it.now)) }
     ensures { OnOk result (Rights (expr_in (valued text.now tokens.now it.now)) found.old found.new) }
 {
     match kind_at(text, tokens, it) {
-        Some(Kind::Object(props)) => props_found(found, text, tokens, &props),
-        Some(Kind::Plain(look)) => set_exports(found, text, tokens, look),
-        Some(Kind::Paren(_)) => Ok(()),
-        Some(Kind::Number(_)) => Ok(()),
-        Some(Kind::Sequence { .. }) => Ok(()),
-        Some(Kind::Spread) => Ok(()),
-        Some(Kind::Function(_)) => Ok(()),
-        Some(Kind::Assigned(_)) => Err(AllocError),
-        None => Err(AllocError),
+        Kind::Object(props) => props_found(found, text, tokens, &props),
+        Kind::Plain(look) => set_exports(found, text, tokens, look),
+        Kind::Paren(_) => Ok(()),
+        Kind::Number(_) => Ok(()),
+        Kind::Sequence { .. } => Ok(()),
+        Kind::Spread => Ok(()),
+        Kind::Function(_) => Ok(()),
+        Kind::Assigned(_) => Ok(()),
     }
 }
 
@@ -154,6 +153,7 @@ pub fn exports_found(
     tokens: &[Token],
     it: &Item<'_>,
 ) -> Result<(), AllocError>
+    requires { IsCut text.now tokens.now }
     ensures { OnOk result (Rights (expr_in (valued text.now tokens.now it.now)) found.old found.new) }
 {
     let last = last_right(text, tokens, it);

@@ -23,11 +23,8 @@ use Rattle.es_lowering.specs.Expressions.{elements, optional_inner}
 use Rattle.es_lowering.specs.TypedExpressions.{typed_call_of, typed_tagged_of}
 use Rattle.es_lowering.specs.TypedExpressions.{typed_call, non_null_of}
 use Rattle.es_lowering.specs.TypedParts.{args_part_at}
-use Rattle.es_syntax.specs.Roles.{expr_in}
 use Rattle.es_view_expressions.specs.expr.Primary as primary
 use Rattle.es_view_expressions.specs.operator.Operator as operator
-use Rattle.es_view_expressions.specs.operator.Lean as lean
-use Rattle.es_view_expressions.specs.declared.operator.lean.Chain.{Chain}
 use Rattle.es_view_expressions.specs.declared.operator.operator.Operator.{Operator}
 use Rattle.es_view_expressions.specs.declared.operator.operator.Operator.TheVariants as o
 use Rattle.es_view_expressions.specs.call.Call as call
@@ -211,10 +208,6 @@ module _ (x : List ℕ) (ts : List Token) (r : Range) where
   function_harms (f.TypedArrow is_async type_params params return_type body) =
       by_running _ (others.typed_arrow_is x ts r is_async _ _ _ _)
   function_harms f.Broken = record { told = tt }
-
-pub chain_harms : (x : List ℕ) (ts : List Token) (c : Chain)
-    → Tells is_harmless (expr_in (lean.the_chain x ts c)) false
-chain_harms x ts c = by_nothing _ (others.chain_nothing x ts c)
 
 module _ (r : Range) where
   pub harms_super : Tells is_harmless (Some (vExpr.Super r)) false

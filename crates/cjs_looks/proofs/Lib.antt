@@ -22,3 +22,7 @@ pub mod Plain
 pub mod Args
 -- which forms are harmless
 pub mod Harms
+-- what no view knows
+pub mod Unknown
+-- what is behind a call
+pub mod Behind

@@ -1,5 +1,5 @@
 -- The forms that are none of those that are looked at.
-use Rattle.std.specs.Prelude.{ℕ, Bool, true, false, List, [], ◌∷◌, Option, Some, None, option_map, if◌then◌else◌}
+use Rattle.std.specs.Prelude.{ℕ, Bool, true, false, List, Option, Some, None, option_map, if◌then◌else◌}
 use Rattle.std.proofs.Common.{◌≡◌, refl, sym, ap, ◌∙◌}
 use Rattle.base.specs.declared.range.Range.{Range}
 use Rattle.es_token.specs.declared.token.Token.{Token}
@@ -14,7 +14,7 @@ use Rattle.es_ast.specs.declared.ast.Pat.{Pat}
 use Rattle.es_ast.specs.declared.ast.Pat.TheVariants as vPat
 use Rattle.es_ast.specs.declared.ast.ClassMember.TheOpen.{Expr-F}
 use Rattle.es_site.specs.Parts.{ExprParts}
-use Rattle.es_lowering.specs.Value.{Value, absent, nil, more, token, node, given, part, turns, expr_at}
+use Rattle.es_lowering.specs.Value.{Value, absent, nil, more, token, node, given, part, expr_at}
 use Rattle.es_lowering.specs.Texts.{kind_at, private_of}
 use Rattle.es_lowering.specs.Operators.{listed, unary_ops, update_ops, binary_between, assign_between}
 use Rattle.es_lowering.specs.Expressions.{yield_of}

@@ -19,10 +19,8 @@ use Rattle.es_lowering.specs.Functions.{body_of}
 use Rattle.es_lowering.specs.Lowering.{build, expr_of}
 use Rattle.es_syntax.specs.declared.entry.Lean.{Lean}
 use Rattle.es_syntax.specs.declared.entry.Lean.TheVariants as vLean
-use Rattle.es_syntax.specs.Held.{Held, valued, parts_of, label_of, node_of, leaning, leaned}
+use Rattle.es_syntax.specs.Held.{Held, label_of, node_of, leaning, leaned, leant}
 use Rattle.es_syntax.specs.Roles.{expr_in}
-use Rattle.es_view_expressions.specs.operator.Lean as lean
-use Rattle.es_view_expressions.specs.declared.operator.lean.Chain.{Chain}
 use Rattle.es_view_expressions.specs.call.Call as call
 use Rattle.es_view_expressions.specs.function.Function as fn
 use Rattle.cjs_looks.specs.Odd.{All, Linked, IsNothing, IsRunning}
@@ -152,13 +150,13 @@ module _ (x : List ℕ) (ts : List Token) where
       leaned_is lean from (leaning x ts lean from v turn) turns
       (leaning_is lean from turn.0 (more v (as_group turn.1)))
 
-  pub chain_nothing : (c : Chain) → All N (expr_in (lean.the_chain x ts c))
-  chain_nothing c =
-      leaned_is c.lean c.from _ (parts_of x ts c.others.entries.now)
-      (leaning_is c.lean c.from c.turn.to (more (valued x ts c.first) (as_group (valued x ts c.turn))))
-
-  pub plain_chain : (c : Chain) → All (Linked other) (expr_in (lean.the_chain x ts c))
-  plain_chain c = all_plain _ (chain_nothing c)
+  -- fewer operands than two are nothing
+  pub lean_is : (lean : Lean) (from : ℕ) (parts : List Held) → All N (expr_in (leant x ts lean from parts))
+  lean_is lean from [] = record { all = tt }
+  lean_is lean from (first ∷ []) = record { all = tt }
+  lean_is lean from (first ∷ turn ∷ turns) =
+      leaned_is lean from (leaning x ts lean from first.1 turn) turns
+      (leaning_is lean from turn.0 (more first.1 (as_group turn.1)))
 
 pub plain_class : (o : Option _) → All (Linked other) (option_map vExpr.Class o)
 plain_class o = all_plain _ (class_is o)

@@ -10,8 +10,10 @@ use Rattle.es_ast.specs.declared.ast.Function.{Function, out-Function}
 use Rattle.es_lowering.specs.Value.{turns, expr_at, prop_at}
 use Rattle.es_lowering.specs.Functions as functions
 use Rattle.es_lowering.specs.TypedParts.{body_in}
+use Rattle.es_syntax.specs.declared.cursor.Siblings.{Siblings}
 use Rattle.es_syntax.specs.Held.{held, valued}
 use Rattle.es_syntax.specs.Roles.{expr_in, stmt_in}
+use Rattle.es_syntax.specs.Views.{Under}
 use Rattle.cjs_facts.specs.Exports.{is_spread_in}
 use Rattle.cjs_facts.specs.Looks.{other, look, props_of, behind_zero, is_zero, second_in, function_in, assigned_last, right_of}
 use Rattle.cjs_looks.specs.declared.kind.Kind.{Kind}
@@ -141,3 +143,8 @@ module _ (x : List ℕ) (ts : List Token) where
   IsKind kind.Spread e = All IsSpread e
   IsKind (kind.Function body) e = All (IsFunction (body_of body)) e
   IsKind (kind.Assigned right) e = All (IsAssignment (expr_in (valued x ts right))) e
+
+-- the right side of an assignment takes fewer entries than these
+abbrev pub IsRightUnder : Siblings → Kind → Type 0
+IsRightUnder n (kind.Assigned right) = Under right n
+IsRightUnder n _ = Unit {0}

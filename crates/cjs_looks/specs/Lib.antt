@@ -10,3 +10,5 @@ pub mod Posts
 pub mod Kinds
 -- the first of arguments
 pub mod Args
+-- what is behind a call
+pub mod Behind

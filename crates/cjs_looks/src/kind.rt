@@ -5,16 +5,19 @@ ghost use Rattle.base.specs.declared.range.Range.{Range};
 ghost use Rattle.es_token.specs.declared.token.Token.{Token as Tok};
 ghost use Rattle.es_ast.specs.declared.ast.Expr.TheVariants as vExpr;
 ghost use Rattle.es_lowering.specs.Value.{as_group, turns, behind, first_of as start_of, post_at as post_there};
-ghost use Rattle.es_view_expressions.specs.operator.Operator.{assigned};
+ghost use Rattle.es_view_expressions.specs.operator.Operator.{assigned, operators};
+ghost use Rattle.es_view_expressions.specs.call.Call.{calls};
+ghost use Rattle.es_syntax.specs.declared.cursor.Siblings.{Siblings as Row};
+ghost use Rattle.es_syntax.specs.Views.{IsNone, Under};
 ghost use Rattle.es_syntax.specs.Held.{held, valued};
 ghost use Rattle.es_syntax.specs.Roles.{expr_in, post_in, args_in};
-ghost use Rattle.es_view_expressions.specs.expr.Primary.{the_primary};
+ghost use Rattle.es_view_expressions.specs.expr.Primary.{the_primary, primaries};
 ghost use Rattle.es_view_expressions.specs.function.Head.{the_head};
 ghost use Rattle.cjs_facts.specs.Looks.{look, call_of};
 ghost use Rattle.cjs_looks.specs.Seen.{Tells, look_of};
 ghost use Rattle.cjs_looks.specs.Odd.{All, Looks, Linked};
 ghost use Rattle.cjs_looks.specs.Posts.{Makes, AllMake};
-ghost use Rattle.cjs_looks.specs.Kinds.{IsKind};
+ghost use Rattle.cjs_looks.specs.Kinds.{IsKind, IsRightUnder};
 
 use crate::looks::Look;
 use crate::words::token_at;
@@ -24,7 +27,6 @@ use es_view_expressions::expr::Primary;
 use es_view_expressions::function::{
     Function, FunctionHead, function_at, plain_function, typed_function,
 };
-use es_view_expressions::operator::chain_at;
 
 /// The body of a function.
 #[derive(Clone, Copy)]
@@ -62,7 +64,8 @@ pub enum Kind<'a> {
 
 #[tactic(auto, using(crate::proofs::Primaries::is_ident, crate::proofs::Primaries::is_str, crate::proofs::Primaries::is_word, crate::proofs::Primaries::is_number, crate::proofs::Primaries::is_regexp, crate::proofs::Primaries::is_template, crate::proofs::Primaries::is_template_parts, crate::proofs::Primaries::is_array, crate::proofs::Primaries::is_spread, crate::proofs::Primaries::is_object, crate::proofs::Primaries::is_paren))]
 pub fn primary_kind<'a>(it: &Primary<'a>) -> Kind<'a>
-    ensures { (x : List ℕ) (ts : List Tok) (r : Range) → IsKind x ts result (the_primary x ts r it.now) }
+    ensures kind { (x : List ℕ) (ts : List Tok) (r : Range) → IsKind x ts result (the_primary x ts r it.now) }
+    ensures under { (n : Row) → IsRightUnder n result }
 {
     match *it {
         Primary::Ident(token) => Kind::Plain(Look::Named(token)),
@@ -83,7 +86,8 @@ pub fn primary_kind<'a>(it: &Primary<'a>) -> Kind<'a>
 /// The kind of a function with a name or without.
 #[tactic(auto, using(crate::proofs::Functions::is_plain_function, crate::proofs::Functions::is_typed_function))]
 fn head_kind<'a>(it: &FunctionHead<'a>) -> Kind<'a>
-    ensures { (x : List ℕ) (ts : List Tok) (r : Range) → IsKind x ts result (option_map vExpr.Fn (the_head x ts r it.now)) }
+    ensures kind { (x : List ℕ) (ts : List Tok) (r : Range) → IsKind x ts result (option_map vExpr.Fn (the_head x ts r it.now)) }
+    ensures under { (n : Row) → IsRightUnder n result }
 {
     match *it {
         FunctionHead::Plain { body, .. } => Kind::Function(Body::Block(body)),
@@ -92,42 +96,33 @@ fn head_kind<'a>(it: &FunctionHead<'a>) -> Kind<'a>
     }
 }
 
-/// What kind of expression a chain of operators is; none where no view knows it.
-#[tactic(auto, using(crate::proofs::Others::plain_chain))]
-fn lean_kind<'a>(it: &Item<'a>) -> Option<Kind<'a>>
-    ensures { (x : List ℕ) (ts : List Tok) → IfSome result (λ kind. IsKind x ts kind (expr_in (valued x ts it.now))) }
-{
-    match chain_at(it) {
-        Some(_) => Some(Kind::Plain(Look::Other)),
-        None => None,
-    }
-}
-
-#[tactic(auto, using(crate::proofs::Others::plain_class, crate::proofs::Functions::is_named_arrow, crate::proofs::Functions::is_plain_arrow, crate::proofs::Functions::is_typed_arrow))]
-pub fn function_kind<'a>(it: &Item<'a>) -> Option<Kind<'a>>
-    ensures { (x : List ℕ) (ts : List Tok) → IfSome result (λ kind. IsKind x ts kind (expr_in (valued x ts it.now))) }
+/// What kind of expression a function is. What no view knows is a chain of operators, or no expression.
+#[tactic(auto, using(crate::proofs::Others::plain_class, crate::proofs::Functions::is_named_arrow, crate::proofs::Functions::is_plain_arrow, crate::proofs::Functions::is_typed_arrow, crate::proofs::Unknown::plain_else))]
+pub fn function_kind<'a>(it: &Item<'a>) -> Kind<'a>
+    requires primary { IsNone primaries it.now.what }
+    requires operator { IsNone operators it.now.what }
+    requires call { IsNone calls it.now.what }
+    ensures kind { (x : List ℕ) (ts : List Tok) → IsKind x ts result (expr_in (valued x ts it.now)) }
+    ensures under { (n : Row) → IsRightUnder n result }
 {
     match function_at(it) {
-        Some(Function::Plain { is_async, parts }) => {
-            Some(head_kind(&plain_function(is_async, &parts)))
-        }
-        Some(Function::Typed { is_async, parts }) => {
-            Some(head_kind(&typed_function(is_async, &parts)))
-        }
-        Some(Function::Class(_)) => Some(Kind::Plain(Look::Other)),
-        Some(Function::TypedClass { .. }) => Some(Kind::Plain(Look::Other)),
-        Some(Function::NameArrow { body, .. }) => Some(Kind::Function(Body::Arrow(body))),
-        Some(Function::Arrow { body, .. }) => Some(Kind::Function(Body::Arrow(body))),
-        Some(Function::TypedArrow { body, .. }) => Some(Kind::Function(Body::Arrow(body))),
-        Some(Function::Broken) => Some(Kind::Plain(Look::Other)),
-        None => lean_kind(it),
+        Some(Function::Plain { is_async, parts }) => head_kind(&plain_function(is_async, &parts)),
+        Some(Function::Typed { is_async, parts }) => head_kind(&typed_function(is_async, &parts)),
+        Some(Function::Class(_)) => Kind::Plain(Look::Other),
+        Some(Function::TypedClass { .. }) => Kind::Plain(Look::Other),
+        Some(Function::NameArrow { body, .. }) => Kind::Function(Body::Arrow(body)),
+        Some(Function::Arrow { body, .. }) => Kind::Function(Body::Arrow(body)),
+        Some(Function::TypedArrow { body, .. }) => Kind::Function(Body::Arrow(body)),
+        Some(Function::Broken) => Kind::Plain(Look::Other),
+        None => Kind::Plain(Look::Other),
     }
 }
 
 /// Whether the sign between the operands of an assignment is `=`.
 #[tactic(auto, using(crate::proofs::Assignments::is_equal, crate::proofs::Assignments::is_unequal, crate::proofs::Assignments::is_no_token, crate::proofs::Assignments::is_no_node))]
 pub fn assignment_kind<'a>(tokens: &[Token], left: &Item<'a>, right: &Item<'a>) -> Kind<'a>
-    ensures { (x : List ℕ) (r : Range) → IsKind x tokens.now result (assigned tokens.now r (behind (valued x tokens.now left.now)) (start_of (valued x tokens.now right.now)) (expr_in (valued x tokens.now left.now)) (expr_in (valued x tokens.now right.now))) }
+    ensures kind { (x : List ℕ) (r : Range) → IsKind x tokens.now result (assigned tokens.now r (behind (valued x tokens.now left.now)) (start_of (valued x tokens.now right.now)) (expr_in (valued x tokens.now left.now)) (expr_in (valued x tokens.now right.now))) }
+    ensures under { (n : Row) → Under right.now n → IsRightUnder n result }
 {
     match left.place() {
         Some((_, behind)) => match token_at(tokens, behind) {

@@ -1,5 +1,5 @@
 -- Further parts of chains: calls, and others.
-use Rattle.std.specs.Prelude.{ℕ, Bool, true, false, List, [], ◌∷◌, ◌++◌, Option, Some, None, unwrap_or, ◌⊎◌, if◌then◌else◌}
+use Rattle.std.specs.Prelude.{ℕ, Bool, true, false, ◌||◌, List, [], ◌∷◌, ◌++◌, map, Option, Some, None, unwrap_or, ◌⊎◌, if◌then◌else◌}
 use Rattle.std.proofs.Common.{◌≡◌, refl, sym, ap, subst, ◌∙◌, inl, inr}
 use Rattle.es_ast.specs.declared.ast.Expr.{Expr, out-Expr}
 use Rattle.es_lowering.specs.Value.{Value, absent, part, as_group, post_at}
@@ -7,13 +7,18 @@ use Rattle.es_lowering.specs.Expressions.{Post}
 use Rattle.es_syntax.specs.Roles.{post_in}
 use Rattle.cjs_facts.specs.declared.found.Found.{Found}
 use Rattle.cjs_facts.specs.Facts.{Called, Facts}
-use Rattle.cjs_facts.specs.Looks.{Look, look, callee_look}
+use Rattle.es_token.specs.declared.token.Token.{Token}
+use Rattle.cjs_facts.specs.Looks.{Look, look, call_of, callee_look}
 use Rattle.cjs_facts.specs.Exports.{after, is_define, is_star, defined, star, called, called_by}
+use Rattle.cjs_looks.specs.declared.looks.Look.{Look as SeenLook}
+use Rattle.cjs_looks.specs.Behind.{IsBehind}
+use Rattle.cjs_looks.specs.Seen.{Tells, look_of}
 use Rattle.cjs_looks.specs.Odd.{Looks, Linked}
 use Rattle.cjs_looks.specs.Posts.{Makes}
 use Rattle.cjs_calls.specs.Calls.{Makes as Adds}
 use Rattle.cjs_table.specs.Facts.{called_in}
-use Rattle.cjs_table.specs.Chains.{IsCall, CallsOf, Spot, State, Follows, Passes, Counts, Calls, CallStep}
+use Rattle.cjs_table.specs.declared.chain.Along.{Along}
+use Rattle.cjs_table.specs.Chains.{IsCall, CallsOf, IsOnce, Spot, State, Follows, Passes, Counts, Calls, CallStep}
 use Rattle.cjs_table.proofs.Given.{after_one}
 
 -- ---- whether a call counts
@@ -23,18 +28,52 @@ no_call callee args f d s =
     ap (λ (b : Bool). if b then defined args f else (if is_star callee then star args f else f)) d
     ∙ ap (λ (b : Bool). if b then star args f else f) s
 
-pub passes : (callee : Look) (args : Option (List Expr)) (counted defines stars : Bool) (old : Found)
-    → defines ≡ is_define callee → stars ≡ is_star callee → defines ≡ false → stars ≡ false
-    → Calls callee args counted counted old old
-passes callee None counted defines stars old d s e f = record { calls = tt }
-passes callee (Some args) counted defines stars old d s e f = record {
-  calls = inl (λ g. no_call callee args g (sym d ∙ e) (sym s ∙ f), (refl, refl));
-}
+neither : (a b : Bool) → (a || b) ≡ false → (a ≡ false) × (b ≡ false)
+neither true b e = let bad : ⊥ = cc in absurd bad
+neither false b e = (refl, e)
 
-pub counts : (callee : Look) (args : Option (List Expr)) (counted : Bool) (old new : Found) → counted ≡ false
+pub passes : (callee : Look) (args : Option (List Expr)) (counted counts : Bool) (old : Found)
+    → counts ≡ (is_define callee || is_star callee) → counts ≡ false → Calls callee args counted counted old old
+passes callee None counted counts old same e = record { calls = tt }
+passes callee (Some args) counted counts old same e =
+    let both = neither (is_define callee) (is_star callee) (sym same ∙ e) in
+    record { calls = inl (λ g. no_call callee args g both.0 both.1, (refl, refl)) }
+
+counts : (callee : Look) (args : Option (List Expr)) (counted : Bool) (old new : Found) → counted ≡ false
     → Adds (called_by callee) args old new → Calls callee args counted true old new
 counts callee None counted old new c a = record { calls = tt }
 counts callee (Some args) counted old new c a = record { calls = inr (c, (a.makes, refl)) }
+
+-- ---- behind a call that counted none does
+no_count : (l : Look) → IsBehind l → (is_define l || is_star l) ≡ false
+no_count l is = ap (λ (b : Bool). b || is_star l) is.defines ∙ is.stars
+
+module _ (x : List ℕ) (ts : List Token) where
+  pub first_counts : (along : Along) (args : Option (List Expr)) (is : Bool) (old new : Found) → IsOnce x ts along
+      → is ≡ (is_define (look_of x ts along.callee) || is_star (look_of x ts along.callee)) → is ≡ true
+      → Adds (called_by (look_of x ts along.callee)) args old new
+      → Calls (look_of x ts along.callee) args along.counted true old new
+  first_counts along args is old new once same so adds =
+      counts (look_of x ts along.callee) args along.counted old new (go along.counted refl) adds
+    where
+      go : (counted : Bool) → along.counted ≡ counted → along.counted ≡ false
+      go false e = e
+      go true e =
+          let not_so : true ≡ false = sym so ∙ (same ∙ no_count (look_of x ts along.callee) (once e).1) in
+          let bad : ⊥ = cc in
+          absurd bad
+
+  pub once_call : (seen : SeenLook) (counted : Bool) → IsBehind (look_of x ts seen)
+      → IsOnce x ts (record { seen = seen; callee = seen; counted = counted })
+  once_call seen counted is = λ e. (is, is)
+
+  pub once_part : (along : Along) (seen : SeenLook) → IsOnce x ts along
+      → (IsBehind (look_of x ts along.seen) → IsBehind (look_of x ts seen))
+      → IsOnce x ts (record { seen = seen; callee = seen; counted = along.counted })
+  once_part along seen once stays = λ e. let is = stays (once e).0 in (is, is)
+
+  pub once_begun : (seen callee : SeenLook) → IsOnce x ts (record { seen = seen; callee = callee; counted = false })
+  once_begun seen callee = λ e. let bad : ⊥ = cc in absurd bad
 
 -- ---- what is linked looks so as a callee
 as_callee : (e : Expr) (l : Look) → Linked l e → callee_look e ≡ l
@@ -98,7 +137,7 @@ call_state : (args : List Expr) (seen callee told : Look) (counted counted_then 
 call_state args seen callee told counted counted_then found found_then c post is makes start byte e calls s =
     let linked = makes byte e s.looks in
     subst (λ (own : Facts). State (post byte e) (own ++ calls) (at told told counted_then found_then) start)
-    (sym (is byte e))
+    (sym (is byte e).0)
     (record {
       looks = linked.0;
       acts = as_callee (post byte e) told linked;
@@ -134,14 +173,24 @@ call_step (Some args) seen callee told counted counted_then found found_then c =
 }
 
 follows_call : (part : Option Post) (args : Option (List Expr)) (seen : Look) (a b : Spot)
-    → Makes (Looks a.seen) (Linked seen) part → CallsOf (Some args) part → CallStep args seen a b → Follows part a b
-follows_call None args seen a b makes c s = record { follows = tt }
-follows_call (Some post) None seen a b makes c s = absurd c.calls
-follows_call (Some post) (Some args) seen a b makes c s = record {
-  follows = λ start byte e calls t. s.steps post c.calls makes.makes start byte e calls t;
+    → Tells (λ args. call_of a.seen (map look args)) args seen → CallsOf (Some args) part → CallStep args seen a b
+    → Follows part a b
+follows_call None args seen a b told c s = record { follows = tt }
+follows_call (Some post) None seen a b told c s = absurd c.calls
+follows_call (Some post) (Some args) seen a b told c s = record {
+  follows = λ start byte e calls t.
+      s.steps post c.calls
+      (λ byte e is.
+      subst (λ (l : Look). Linked l (post byte e)) (ap (λ (l : Look). call_of l (map look args)) is ∙ told.told)
+      (c.calls byte e).1) start byte e calls t;
 }
 
 pub call_follows : (part view : Option Post) (args : Option (List Expr)) (seen : Look) (a b : Spot) → part ≡ view
-    → Makes (Looks a.seen) (Linked seen) part → CallsOf (Some args) view → CallStep args seen a b → Follows part a b
-call_follows part view args seen a b is makes c s =
-    follows_call part args seen a b makes (subst (λ (p : Option Post). CallsOf (Some args) p) (sym is) c) s
+    → Tells (λ args. call_of a.seen (map look args)) args seen → CallsOf (Some args) view → CallStep args seen a b
+    → Follows part a b
+call_follows part view args seen a b is told c s =
+    follows_call part args seen a b told (subst (λ (p : Option Post). CallsOf (Some args) p) (sym is) c) s
+
+-- ---- a part that isn't there
+pub none_follows : (part : Option Post) (a b : Spot) → part ≡ None → Follows part a b
+none_follows part a b e = subst (λ (p : Option Post). Follows p a b) (sym e) (record { follows = tt })

@@ -14,13 +14,18 @@ use Rattle.es_lowering.specs.Expressions.{Post, from_byte, member_of, index_of, 
 use Rattle.es_lowering.specs.TypedParts.{args_part_at}
 use Rattle.es_lowering.specs.TypedExpressions.{typed_call_of, typed_call, typed_tagged_of, non_null_of, typed_optional_inner, typed_optional_of}
 use Rattle.es_view_expressions.specs.call.Post as view
+use Rattle.std.proofs.Common.{refl}
+use Rattle.cjs_facts.specs.Looks.{look}
+use Rattle.cjs_looks.proofs.Links.{call_link}
 use Rattle.cjs_table.specs.Chains.{IsCall, IsQuiet, CallsOf}
 use Rattle.cjs_table.proofs.Chains.{called_roll}
 
 -- ---- by their forms
 call_made : (r : Range) (types : Option TsPart) (args : List Expr) → IsCall (typed_call_of false r types args) args
-call_made r types args start e =
-    called_roll _ (Expr-F.Call e false types args (from_byte start r)) (vExpr.rolls-Call e false types args _)
+call_made r types args start e = (
+  called_roll _ (Expr-F.Call e false types args (from_byte start r)) (vExpr.rolls-Call e false types args _),
+  call_link r types args (look e) start e refl,
+)
 
 optional_made : (r : Range) (types : Option TsPart) (args : List Expr) → IsQuiet (typed_call_of true r types args)
 optional_made r types args start e =

@@ -1,5 +1,5 @@
 -- What further parts of chains add.
-use Rattle.std.specs.Prelude.{◌≡◌, ℕ, Bool, true, false, List, [], ◌∷◌, ◌++◌, Option, Some, None, IfSome, IsSomeAnd, ◌⊎◌}
+use Rattle.std.specs.Prelude.{◌≡◌, ℕ, Bool, true, false, List, [], ◌∷◌, ◌++◌, map, Option, Some, None, IfSome, IsSomeAnd, ◌⊎◌}
 use Rattle.es_token.specs.declared.token.Token.{Token}
 use Rattle.es_ast.specs.declared.ast.Expr.{Expr, out-Expr}
 use Rattle.es_lowering.specs.Expressions.{Post, chained}
@@ -8,16 +8,20 @@ use Rattle.es_syntax.specs.Held.{valued}
 use Rattle.es_syntax.specs.Roles.{args_in}
 use Rattle.cjs_facts.specs.declared.found.Found.{Found}
 use Rattle.cjs_facts.specs.Facts.{Facts, Called}
-use Rattle.cjs_facts.specs.Looks.{Look, look, callee_look}
+use Rattle.cjs_facts.specs.Looks.{Look, look, call_of, callee_look}
 use Rattle.cjs_facts.specs.Exports.{after, called_by}
+use Rattle.cjs_looks.specs.Behind.{IsBehind}
 use Rattle.cjs_looks.specs.Odd.{Linked}
 use Rattle.cjs_looks.specs.Seen.{look_of}
 use Rattle.cjs_table.specs.declared.chain.Along.{Along}
 use Rattle.cjs_table.specs.Facts.{called_in, chain_calls}
 
 -- ---- whether a further part is a call
+-- its one fact, and what it looks like
 abbrev pub IsCall : Post → List Expr → Type 0
-IsCall post args = (start : ℕ) (e : Expr) → called_in (out-Expr (post start e)) ≡ Called e args ∷ []
+IsCall post args =
+    (start : ℕ) (e : Expr) → (called_in (out-Expr (post start e)) ≡ Called e args ∷ [])
+    × Linked (call_of (look e) (map look args)) (post start e)
 
 abbrev pub IsQuiet : Post → Type 0
 IsQuiet post = (start : ℕ) (e : Expr) → called_in (out-Expr (post start e)) ≡ []
@@ -48,6 +52,11 @@ spot x ts along found = record {
   counted = along.counted;
   found = found;
 }
+
+-- behind a call that counted none does
+abbrev pub IsOnce : List ℕ → List Token → Along → Type 0
+IsOnce x ts along =
+    along.counted ≡ true → IsBehind (look_of x ts along.seen) × IsBehind (look_of x ts along.callee)
 
 -- an expression there: its calls were added
 pub record State (e : Expr) (calls : Facts) (s : Spot) (start : Found) : Type 0 where

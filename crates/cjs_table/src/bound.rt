@@ -3,6 +3,7 @@
 ghost use Rattle.std.specs.Prelude.{◌≡◌, OnOk};
 ghost use Rattle.es_lowering.specs.Value.{as_group, turns, declarator_at as declarator_there};
 ghost use Rattle.es_syntax.specs.Held.{held, valued};
+ghost use Rattle.es_bound_names.specs.Cuts.{IsCut};
 ghost use Rattle.cjs_calls.specs.Binds.{Bounds};
 ghost use Rattle.cjs_table.specs.Facts.{bound_of, bound_all};
 ghost use Rattle.cjs_table.specs.Left.{Gives};
@@ -21,6 +22,7 @@ fn bound_turn(
     tokens: &[Token],
     turn: &Item<'_>,
 ) -> Result<(), AllocError>
+    requires { IsCut text.now tokens.now }
     ensures { OnOk result (Bounds (declarator_there (as_group (valued text.now tokens.now turn.now)) 0) found.old found.new) }
 {
     match turn.group().part(0) {
@@ -37,6 +39,7 @@ fn bound_turns(
     tokens: &[Token],
     all: &Siblings<'_>,
 ) -> Result<(), AllocError>
+    requires { IsCut text.now tokens.now }
     ensures { OnOk result (Gives (bound_all (turns (λ turn. declarator_there turn 0) (held text.now tokens.now all.now.entries.now))) found.old found.new) }
 {
     let mut row = *all;
@@ -55,6 +58,7 @@ pub fn bound_parts(
     tokens: &[Token],
     parts: &Siblings<'_>,
 ) -> Result<(), AllocError>
+    requires { IsCut text.now tokens.now }
     ensures { OnOk result (Gives (bound_of (held text.now tokens.now parts.now.entries.now)) found.old found.new) }
 {
     match parts.part(1) {

@@ -1,25 +1,28 @@
 //! The calls of a chain. The scan goes from the left; at most one call of a chain counts, and it adds to what is found at
 //! once.
 
-ghost use Rattle.std.specs.Prelude.{◌≡◌, ℕ, List, false, IfOk, IfSome, OnOk};
+ghost use Rattle.std.specs.Prelude.{◌≡◌, ◌||◌, ℕ, List, false, IfOk, OnOk};
 ghost use Rattle.base.specs.declared.range.Range.{Range};
 ghost use Rattle.es_token.specs.declared.token.Token.{Token as Tok};
 ghost use Rattle.es_lowering.specs.Value.{as_group, turns, post_at as post_there};
 ghost use Rattle.es_view_expressions.specs.call.Post.{the_post};
 ghost use Rattle.es_syntax.specs.Held.{held, valued};
 ghost use Rattle.es_syntax.specs.Roles.{args_in, expr_in, post_in};
+ghost use Rattle.es_bound_names.specs.Cuts.{IsCut};
 ghost use Rattle.cjs_facts.specs.Looks.{look, callee_look};
+ghost use Rattle.cjs_facts.specs.Exports.{is_define, is_star};
+ghost use Rattle.cjs_looks.specs.Behind.{IsBehind};
 ghost use Rattle.cjs_looks.specs.Odd.{Looks, Linked};
 ghost use Rattle.cjs_looks.specs.Posts.{Makes};
 ghost use Rattle.cjs_looks.specs.Seen.{Tells, look_of};
 ghost use Rattle.cjs_table.specs.Facts.{chain_of, calls_of};
 ghost use Rattle.cjs_table.specs.Left.{Gives};
-ghost use Rattle.cjs_table.specs.Chains.{spot, Follows, AllFollow, Calls, CallStep, CallsOf, args_seen};
+ghost use Rattle.cjs_table.specs.Chains.{spot, Follows, AllFollow, Calls, CallStep, CallsOf, IsOnce, args_seen};
 
 use cjs_calls::{called, callee_at};
 use cjs_facts::Found;
 use cjs_looks::steps::{is_define, is_star};
-use cjs_looks::{Look, look_at, post_look};
+use cjs_looks::{Look, call_look, look_at, post_look};
 use es_syntax::{Item, Siblings};
 use es_token::Token;
 use es_view_expressions::call::{Post, post_at};
@@ -52,8 +55,15 @@ fn call_in<'a>(view: &Post<'a>) -> Option<Item<'a>>
     }
 }
 
-/// What a call of what looks so adds, where it counts; whether one did by now.
-#[tactic(auto, using(crate::proofs::CallSteps::counts, crate::proofs::CallSteps::passes))]
+/// Whether a call of what looks so counts.
+fn counts(text: &str, tokens: &[Token], callee: Look) -> bool
+    ensures { result ≡ (is_define (look_of text.now tokens.now callee) || is_star (look_of text.now tokens.now callee)) }
+{
+    is_define(text, tokens, callee) || is_star(text, tokens, callee)
+}
+
+/// What a call of what looks so adds, where it counts; whether one did by now. No call behind one that counted does.
+#[tactic(auto, using(crate::proofs::CallSteps::first_counts, crate::proofs::CallSteps::passes))]
 fn call_found(
     found: &mut Found,
     text: &str,
@@ -61,14 +71,11 @@ fn call_found(
     along: Along,
     args: &Item<'_>,
 ) -> Result<bool, AllocError>
+    requires cut { IsCut text.now tokens.now }
+    requires once { IsOnce text.now tokens.now along }
     ensures { IfOk result (λ counted. Calls (look_of text.now tokens.now along.callee) (args_in (valued text.now tokens.now args.now)) along.counted counted found.old found.new) }
 {
-    let defines = is_define(text, tokens, along.callee);
-    let stars = is_star(text, tokens, along.callee);
-    if defines || stars {
-        if along.counted {
-            return Err(AllocError);
-        }
+    if counts(text, tokens, along.callee) {
         called(found, text, tokens, along.callee, args)?;
         return Ok(true);
     }
@@ -76,7 +83,7 @@ fn call_found(
 }
 
 /// What a call of these arguments adds, with which a chain looks so.
-#[tactic(auto, using(crate::proofs::CallSteps::call_step))]
+#[tactic(auto, using(crate::proofs::CallSteps::call_step, crate::proofs::CallSteps::once_call))]
 fn call_step(
     found: &mut Found,
     text: &str,
@@ -85,7 +92,11 @@ fn call_step(
     seen: Look,
     args: &Item<'_>,
 ) -> Result<Along, AllocError>
-    ensures { IfOk result (λ then. CallStep (args_in (valued text.now tokens.now args.now)) (look_of text.now tokens.now seen) (spot text.now tokens.now along found.old) (spot text.now tokens.now then found.new)) }
+    requires cut { IsCut text.now tokens.now }
+    requires once { IsOnce text.now tokens.now along }
+    requires behind { IsBehind (look_of text.now tokens.now seen) }
+    ensures steps { IfOk result (λ then. CallStep (args_in (valued text.now tokens.now args.now)) (look_of text.now tokens.now seen) (spot text.now tokens.now along found.old) (spot text.now tokens.now then found.new)) }
+    ensures once { IfOk result (IsOnce text.now tokens.now) }
 {
     let counted = call_found(found, text, tokens, along, args)?;
     Ok(Along {
@@ -95,33 +106,25 @@ fn call_step(
     })
 }
 
-/// What a further part adds, with which a chain looks so.
-#[tactic(auto, using(crate::proofs::CallSteps::call_follows, crate::proofs::CallSteps::part_follows))]
-fn view_step(
-    found: &mut Found,
-    text: &str,
-    tokens: &[Token],
-    along: Along,
-    seen: Look,
-    it: &Item<'_>,
-) -> Result<Along, AllocError>
-    ensures { Makes (Looks (look_of text.now tokens.now along.seen)) (Linked (look_of text.now tokens.now seen)) (post_in (valued text.now tokens.now it.now)) →
-        IfOk result (λ then. Follows (post_in (valued text.now tokens.now it.now)) (spot text.now tokens.now along found.old) (spot text.now tokens.now then found.new)) }
+/// What a further part that is no call adds.
+#[tactic(auto, using(crate::proofs::CallSteps::once_part))]
+fn quiet_step(text: &str, tokens: &[Token], along: Along, it: &Item<'_>) -> Along
+    requires { IsOnce text.now tokens.now along }
+    ensures makes { Makes (Looks (look_of text.now tokens.now along.seen)) (Linked (look_of text.now tokens.now result.seen)) (post_in (valued text.now tokens.now it.now)) }
+    ensures callee { result.callee ≡ result.seen }
+    ensures counted { result.counted ≡ along.counted }
+    ensures once { IsOnce text.now tokens.now result }
 {
-    match post_at(it) {
-        Some(view) => match call_in(&view) {
-            Some(args) => call_step(found, text, tokens, along, seen, &args),
-            None => Ok(Along {
-                seen,
-                callee: seen,
-                counted: along.counted,
-            }),
-        },
-        None => Err(AllocError),
+    let seen = post_look(text, tokens, along.seen, it);
+    Along {
+        seen,
+        callee: seen,
+        counted: along.counted,
     }
 }
 
 /// What a further part adds.
+#[tactic(auto, using(crate::proofs::CallSteps::call_follows, crate::proofs::CallSteps::part_follows, crate::proofs::CallSteps::none_follows, cjs_looks::proofs::Unknown::no_post))]
 fn post_step(
     found: &mut Found,
     text: &str,
@@ -129,11 +132,20 @@ fn post_step(
     along: Along,
     it: &Item<'_>,
 ) -> Result<Along, AllocError>
-    ensures { IfOk result (λ then. Follows (post_in (valued text.now tokens.now it.now)) (spot text.now tokens.now along found.old) (spot text.now tokens.now then found.new)) }
+    requires cut { IsCut text.now tokens.now }
+    requires once { IsOnce text.now tokens.now along }
+    ensures follows { IfOk result (λ then. Follows (post_in (valued text.now tokens.now it.now)) (spot text.now tokens.now along found.old) (spot text.now tokens.now then found.new)) }
+    ensures once { IfOk result (IsOnce text.now tokens.now) }
 {
-    match post_look(text, tokens, along.seen, it) {
-        Some(seen) => view_step(found, text, tokens, along, seen, it),
-        None => Err(AllocError),
+    match post_at(it) {
+        Some(view) => match call_in(&view) {
+            Some(args) => {
+                let seen = call_look(text, tokens, along.seen, &args);
+                call_step(found, text, tokens, along, seen, &args)
+            }
+            None => Ok(quiet_step(text, tokens, along, it)),
+        },
+        None => Ok(along),
     }
 }
 
@@ -146,7 +158,10 @@ fn turn_step(
     along: Along,
     turn: &Item<'_>,
 ) -> Result<Along, AllocError>
-    ensures { IfOk result (λ then. Follows (post_there (as_group (valued text.now tokens.now turn.now)) 0) (spot text.now tokens.now along found.old) (spot text.now tokens.now then found.new)) }
+    requires cut { IsCut text.now tokens.now }
+    requires once { IsOnce text.now tokens.now along }
+    ensures follows { IfOk result (λ then. Follows (post_there (as_group (valued text.now tokens.now turn.now)) 0) (spot text.now tokens.now along found.old) (spot text.now tokens.now then found.new)) }
+    ensures once { IfOk result (IsOnce text.now tokens.now) }
 {
     match turn.group().part(0) {
         Some(post) => post_step(found, text, tokens, along, &post),
@@ -163,6 +178,8 @@ fn posts(
     along: Along,
     others: &Siblings<'_>,
 ) -> Result<Along, AllocError>
+    requires cut { IsCut text.now tokens.now }
+    requires once { IsOnce text.now tokens.now along }
     ensures { IfOk result (λ then. AllFollow (turns (λ turn. post_there turn 0) (held text.now tokens.now others.now.entries.now)) (spot text.now tokens.now along found.old) (spot text.now tokens.now then found.new)) }
 {
     let mut row = *others;
@@ -175,21 +192,17 @@ fn posts(
 }
 
 /// What a chain begins with.
-fn begin(text: &str, tokens: &[Token], base: &Item<'_>) -> Result<Along, AllocError>
-    ensures seen { IfOk result (λ along. Tells look (expr_in (valued text.now tokens.now base.now)) (look_of text.now tokens.now along.seen)) }
-    ensures callee { IfOk result (λ along. Tells callee_look (expr_in (valued text.now tokens.now base.now)) (look_of text.now tokens.now along.callee)) }
-    ensures counted { IfOk result (λ along. along.counted ≡ false) }
+#[tactic(auto, using(crate::proofs::CallSteps::once_begun))]
+fn begin(text: &str, tokens: &[Token], base: &Item<'_>) -> Along
+    ensures seen { Tells look (expr_in (valued text.now tokens.now base.now)) (look_of text.now tokens.now result.seen) }
+    ensures callee { Tells callee_look (expr_in (valued text.now tokens.now base.now)) (look_of text.now tokens.now result.callee) }
+    ensures counted { result.counted ≡ false }
+    ensures once { IsOnce text.now tokens.now result }
 {
-    match look_at(text, tokens, base) {
-        Some(seen) => match callee_at(text, tokens, base) {
-            Some(callee) => Ok(Along {
-                seen,
-                callee,
-                counted: false,
-            }),
-            None => Err(AllocError),
-        },
-        None => Err(AllocError),
+    Along {
+        seen: look_at(text, tokens, base),
+        callee: callee_at(text, tokens, base),
+        counted: false,
     }
 }
 
@@ -203,9 +216,10 @@ fn chain(
     first: &Item<'_>,
     others: &Siblings<'_>,
 ) -> Result<(), AllocError>
+    requires { IsCut text.now tokens.now }
     ensures { OnOk result ((start : ℕ) → Gives (chain_of start (expr_in (valued text.now tokens.now base.now)) (post_in (valued text.now tokens.now first.now)) (turns (λ turn. post_there turn 0) (held text.now tokens.now others.now.entries.now))) found.old found.new) }
 {
-    let along = begin(text, tokens, base)?;
+    let along = begin(text, tokens, base);
     let along = post_step(found, text, tokens, along, first)?;
     posts(found, text, tokens, along, others)?;
     Ok(())
@@ -219,6 +233,7 @@ pub fn calls(
     tokens: &[Token],
     parts: &Siblings<'_>,
 ) -> Result<(), AllocError>
+    requires { IsCut text.now tokens.now }
     ensures { OnOk result ((start : ℕ) → Gives (calls_of start (held text.now tokens.now parts.now.entries.now)) found.old found.new) }
 {
     match parts.part(0) {

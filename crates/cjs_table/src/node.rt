@@ -2,6 +2,7 @@
 
 ghost use Rattle.std.specs.Prelude.{◌≡◌, ℕ, List, OnOk};
 ghost use Rattle.es_syntax.specs.Held.{held};
+ghost use Rattle.es_bound_names.specs.Cuts.{IsCut};
 ghost use Rattle.cjs_table.specs.Facts.{act_of, is_equal, has_facts, told_of, assigned_of, pattern_assigned_of};
 ghost use Rattle.cjs_table.specs.Left.{Gives};
 
@@ -76,6 +77,7 @@ fn equal_assigned(
     tokens: &[Token],
     parts: &Siblings<'_>,
 ) -> Result<(), AllocError>
+    requires { IsCut text.now tokens.now }
     ensures { OnOk result (Gives (assigned_of (held text.now tokens.now parts.now.entries.now)) found.old found.new) }
 {
     match parts.part(0) {
@@ -98,6 +100,7 @@ fn pattern_set(
     tokens: &[Token],
     parts: &Siblings<'_>,
 ) -> Result<(), AllocError>
+    requires { IsCut text.now tokens.now }
     ensures { OnOk result (Gives (pattern_assigned_of (held text.now tokens.now parts.now.entries.now)) found.old found.new) }
 {
     match parts.part(0) {
@@ -120,6 +123,7 @@ pub fn add_own(
     act: Act,
     parts: &Siblings<'_>,
 ) -> Result<(), AllocError>
+    requires { IsCut text.now tokens.now }
     ensures { OnOk result ((start : ℕ) → Gives (told_of act start (held text.now tokens.now parts.now.entries.now)) found.old found.new) }
 {
     match act {

@@ -6,6 +6,7 @@ ghost use Rattle.es_token.specs.declared.token.Token.{Token as Tok};
 ghost use Rattle.es_lowering.specs.Value.{part};
 ghost use Rattle.es_syntax.specs.Held.{held};
 ghost use Rattle.es_syntax.specs.Roles.{program_in};
+ghost use Rattle.es_bound_names.specs.Cuts.{IsCut};
 ghost use Rattle.cjs_table.specs.Met.{both, one, met, way_of};
 ghost use Rattle.cjs_table.specs.Facts.{own, row_met, item_met};
 ghost use Rattle.cjs_table.specs.Left.{Finds, operands_of, lean_told, Gives, Takes, frame_told, ahead, weight};
@@ -47,6 +48,7 @@ fn enter_node<'t>(
     label: NodeKind,
     parts: &Siblings<'t>,
 ) -> Result<(), AllocError>
+    requires { IsCut text.now tokens.now }
     ensures takes { OnOk result ((r : Range) → Takes (both (own tokens.now label r (held text.now tokens.now parts.now.entries.now) (row_met text.now tokens.now parts.now.entries.now)) (ahead text.now tokens.now stack.old)) (ahead text.now tokens.now stack.new) found.old found.new) }
     ensures less { OnOk result (weight stack.new ≤ weight stack.old + (2 * length parts.now.entries.now + 1)) }
 {
@@ -106,6 +108,7 @@ fn enter_one<'t>(
     tokens: &[Token],
     item: &Item<'t>,
 ) -> Result<(), AllocError>
+    requires { IsCut text.now tokens.now }
     ensures takes { OnOk result (Takes (both (met (item_met text.now tokens.now item.now) one) (ahead text.now tokens.now stack.old)) (ahead text.now tokens.now stack.new) found.old found.new) }
     ensures less { OnOk result (weight stack.new ≤ weight stack.old + (2 * length item.now.parts.entries.now + 1)) }
 {
@@ -137,6 +140,7 @@ fn enter<'t>(
     item: &Item<'t>,
     mode: Mode,
 ) -> Result<(), AllocError>
+    requires { IsCut text.now tokens.now }
     ensures takes { OnOk result (Takes (both (met (item_met text.now tokens.now item.now) (way_of mode)) (ahead text.now tokens.now stack.old)) (ahead text.now tokens.now stack.new) found.old found.new) }
     ensures less { OnOk result (weight stack.new ≤ weight stack.old + (2 * length item.now.parts.entries.now + 1)) }
 {
@@ -164,6 +168,7 @@ fn advance<'t>(
     tokens: &[Token],
     frame: Frame<'t>,
 ) -> Result<(), AllocError>
+    requires { IsCut text.now tokens.now }
     ensures takes { OnOk result (Takes (both (frame_told text.now tokens.now frame.entry) (ahead text.now tokens.now stack.old)) (ahead text.now tokens.now stack.new) found.old found.new) }
     ensures less { OnOk result (weight stack.new < weight stack.old + (2 * length frame.entry.row.entries.now + 1)) }
 {
@@ -187,6 +192,7 @@ fn walk_all<'t>(
     text: &str,
     tokens: &[Token],
 ) -> Result<(), AllocError>
+    requires { IsCut text.now tokens.now }
     ensures { OnOk result (Gives (ahead text.now tokens.now stack.old) found.old found.new) }
 {
     while let Some(frame) = stack.pop() {
@@ -203,6 +209,7 @@ pub fn program_found(
     tokens: &[Token],
     row: &Siblings<'_>,
 ) -> Result<Found, AllocError>
+    requires { IsCut text.now tokens.now }
     ensures { IfOk result (λ found. Finds (program_in (part (held text.now tokens.now row.now.entries.now) 0)) found) }
 {
     let mut found = Found::new(alloc);

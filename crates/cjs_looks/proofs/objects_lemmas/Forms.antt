@@ -10,8 +10,8 @@ use Rattle.es_token.specs.declared.token.TokenKind.TheVariants as k
 use Rattle.grammar_theory.specs.Key.{same_kind}
 use Rattle.es_ast.specs.declared.ts.leaf.MethodKind.{MethodKind}
 use Rattle.es_ast.specs.declared.ts.leaf.MethodKind.TheVariants as vMethod
-use Rattle.es_ast.specs.declared.ast.Expr.{Expr, out-Expr}
-use Rattle.es_ast.specs.declared.ast.Function.{Function, roll-Function, out-Function, out-roll-Function}
+use Rattle.es_ast.specs.declared.ast.Expr.{Expr}
+use Rattle.es_ast.specs.declared.ast.Function.{Function, out-Function, out-roll-Function}
 use Rattle.es_ast.specs.declared.ast.Param.{Param}
 use Rattle.es_ast.specs.declared.ast.Prop.{Prop, roll-Prop, out-Prop, out-roll-Prop}
 use Rattle.es_ast.specs.declared.ast.Prop.TheVariants as vProp
@@ -27,15 +27,15 @@ use Rattle.es_syntax.specs.declared.cursor.Item.{Item}
 use Rattle.es_syntax.specs.Held.{valued}
 use Rattle.es_syntax.specs.Roles.{expr_in, stmt_in}
 use Rattle.es_view_expressions.specs.member.Prop as view
-use Rattle.cjs_facts.specs.Looks.{Property as AProperty, Look, Name, name_by, key_name, is_harmless, property, property_in, returned, returns_harmless}
-use Rattle.cjs_facts.specs.Looks.{returned_by, function_in, is_method_export, method_function}
+use Rattle.cjs_facts.specs.Looks.{Property as AProperty, Look, name_by, is_harmless, property, property_in, returned, returns_harmless}
+use Rattle.cjs_facts.specs.Looks.{returned_by, is_method_export, method_function}
 use Rattle.cjs_looks.specs.declared.looks.Look.{Look as SeenLook}
 use Rattle.cjs_looks.specs.declared.looks.Look.TheVariants as seen
 use Rattle.cjs_looks.specs.declared.kind.Body.{Body}
 use Rattle.cjs_looks.specs.declared.kind.Body.TheVariants as vBody
 use Rattle.cjs_looks.specs.Odd.{All, Linked}
 use Rattle.cjs_looks.specs.Kinds.{IsObject, IsParen, IsNumber, IsSequence, IsSpread, IsFunction, IsAssignment, body_of, body_by}
-use Rattle.cjs_looks.specs.Seen.{Tells, look_of, name_of, name_at}
+use Rattle.cjs_looks.specs.Seen.{Tells, look_of, name_of}
 use Rattle.cjs_looks.specs.declared.objects.properties.Property.{Property}
 use Rattle.cjs_looks.specs.objects.Properties.{key_says, body_harmless, Fits, Is, IsProperty, Runs, AsAccessor, Accesses}
 use Rattle.cjs_looks.specs.objects.Returns.{Meets, Gives, handed}

@@ -4,15 +4,13 @@ use Rattle.std.proofs.Common.{◌≡◌, refl, sym, ap, ◌∙◌}
 use Rattle.es_token.specs.declared.token.Token.{Token}
 use Rattle.es_token.specs.declared.token.TokenKind.TheVariants as k
 use Rattle.grammar_theory.specs.Key.{same_kind}
-use Rattle.es_ast.specs.declared.ts.leaf.Ident.{Ident}
 use Rattle.es_ast.specs.declared.leaf.Lit.{Lit}
 use Rattle.es_ast.specs.declared.leaf.Lit.TheVariants as vLit
-use Rattle.es_ast.specs.declared.ast.Expr.{Expr, roll-Expr}
+use Rattle.es_ast.specs.declared.ast.Expr.{Expr}
 use Rattle.es_ast.specs.declared.ast.Expr.TheVariants as vExpr
 use Rattle.es_ast.specs.declared.ast.ClassMember.TheOpen.{Expr-F}
 use Rattle.es_lowering.specs.Value.{given}
 use Rattle.es_lowering.specs.Texts.{ident_of, str_of, numeric_of, private_of}
-use Rattle.es_lowering.specs.Functions.{Key}
 use Rattle.es_view_expressions.specs.member.Key as key
 use Rattle.cjs_facts.specs.Looks.{Look, named, text, other, name_by, look}
 use Rattle.cjs_facts.proofs.Rolls.{look_roll}

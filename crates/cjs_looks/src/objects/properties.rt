@@ -30,185 +30,140 @@ pub struct Property<'a> {
     pub spread: Option<Item<'a>>,
 }
 
-/// What a key names; none where no view knows it.
-#[tactic(auto, using(crate::proofs::objects_lemmas::Keys::says_word, crate::proofs::objects_lemmas::Keys::says_str, crate::proofs::objects_lemmas::Keys::says_number, crate::proofs::objects_lemmas::Keys::says_computed, crate::proofs::objects_lemmas::Keys::says_private))]
-fn key_look(it: &Item<'_>) -> Option<Look>
-    ensures { (x : List ℕ) (ts : List Tok) → IfSome result (λ look. Tells key_says (key_in (valued x ts it.now)) (name_by (look_of x ts look))) }
+/// What a key names.
+#[tactic(auto, using(crate::proofs::Unknown::says_unknown, crate::proofs::objects_lemmas::Keys::says_word, crate::proofs::objects_lemmas::Keys::says_str, crate::proofs::objects_lemmas::Keys::says_number, crate::proofs::objects_lemmas::Keys::says_computed, crate::proofs::objects_lemmas::Keys::says_private))]
+fn key_look(it: &Item<'_>) -> Look
+    ensures { (x : List ℕ) (ts : List Tok) → Tells key_says (key_in (valued x ts it.now)) (name_by (look_of x ts result)) }
 {
     match key_at(it) {
-        Some(Key::Word(name)) => Some(Look::Named(name)),
-        Some(Key::Str(text)) => Some(Look::Text(text)),
-        Some(Key::Number(_)) => Some(Look::Other),
-        Some(Key::Computed(_)) => Some(Look::Other),
-        Some(Key::Private(_)) => Some(Look::Other),
-        Some(Key::Broken) => Some(Look::Other),
-        None => None,
+        Some(Key::Word(name)) => Look::Named(name),
+        Some(Key::Str(text)) => Look::Text(text),
+        Some(Key::Number(_)) => Look::Other,
+        Some(Key::Computed(_)) => Look::Other,
+        Some(Key::Private(_)) => Look::Other,
+        Some(Key::Broken) => Look::Other,
+        None => Look::Other,
     }
 }
 
-/// Whether a function only returns what is harmless; none where no view knows what it returns.
+/// Whether a function only returns what is harmless.
 #[tactic(auto, using(crate::proofs::objects_lemmas::Forms::returns_nothing, crate::proofs::objects_lemmas::Forms::returns_some))]
-pub fn returns_harmless(text: &str, tokens: &[Token], body: &Body<'_>) -> Option<bool>
-    ensures { IfSome result (λ is. Tells body_harmless (body_of text.now tokens.now body.now) is) }
+pub fn returns_harmless(text: &str, tokens: &[Token], body: &Body<'_>) -> bool
+    ensures { Tells body_harmless (body_of text.now tokens.now body.now) result }
 {
     match returned_by(body) {
-        Some(expr) => match is_harmless(text, tokens, &expr) {
-            Some(is) => Some(is),
-            None => None,
-        },
-        None => Some(false),
+        Some(expr) => is_harmless(text, tokens, &expr),
+        None => false,
     }
 }
 
-/// The function that a value is, if it is one; none where no view knows it.
+/// The function that a value is, if it is one.
 #[tactic(auto, using(crate::proofs::objects_lemmas::Forms::runs_plain, crate::proofs::objects_lemmas::Forms::runs_object, crate::proofs::objects_lemmas::Forms::runs_paren, crate::proofs::objects_lemmas::Forms::runs_number, crate::proofs::objects_lemmas::Forms::runs_sequence, crate::proofs::objects_lemmas::Forms::runs_spread, crate::proofs::objects_lemmas::Forms::runs_assigned, crate::proofs::objects_lemmas::Forms::runs_function))]
-fn value_function<'a>(text: &str, tokens: &[Token], it: &Item<'a>) -> Option<Option<Body<'a>>>
-    ensures { IfSome result (λ function. Runs text.now tokens.now function (expr_in (valued text.now tokens.now it.now))) }
+fn value_function<'a>(text: &str, tokens: &[Token], it: &Item<'a>) -> Option<Body<'a>>
+    ensures { Runs text.now tokens.now result (expr_in (valued text.now tokens.now it.now)) }
 {
     match kind_at(text, tokens, it) {
-        Some(Kind::Function(body)) => Some(Some(body)),
-        Some(Kind::Plain(_)) => Some(None),
-        Some(Kind::Object(_)) => Some(None),
-        Some(Kind::Paren(_)) => Some(None),
-        Some(Kind::Number(_)) => Some(None),
-        Some(Kind::Spread) => Some(None),
-        Some(Kind::Sequence { .. }) => Some(None),
-        Some(Kind::Assigned(_)) => Some(None),
-        None => None,
+        Kind::Function(body) => Some(body),
+        Kind::Plain(_) => None,
+        Kind::Object(_) => None,
+        Kind::Paren(_) => None,
+        Kind::Number(_) => None,
+        Kind::Spread => None,
+        Kind::Sequence { .. } => None,
+        Kind::Assigned(_) => None,
     }
 }
 
-#[tactic(auto, using(crate::proofs::objects_lemmas::Forms::accesses_getter, crate::proofs::objects_lemmas::Forms::accesses_setter, crate::proofs::objects_lemmas::Forms::accesses_nothing))]
 /// Whether the word before an accessor is `get`, and its function only returns what is harmless.
-fn accessor_exports(text: &str, tokens: &[Token], sign: u32, body: &Item<'_>) -> Option<bool>
-    ensures { IfSome result (λ is. Accesses text.now tokens.now (slice_get tokens.now sign) body.now is) }
+#[tactic(auto, using(crate::proofs::objects_lemmas::Forms::accesses_getter, crate::proofs::objects_lemmas::Forms::accesses_setter, crate::proofs::objects_lemmas::Forms::accesses_nothing))]
+fn accessor_exports(text: &str, tokens: &[Token], sign: u32, body: &Item<'_>) -> bool
+    ensures { Accesses text.now tokens.now (slice_get tokens.now sign) body.now result }
 {
     match token_at(tokens, sign) {
         Some(token) => {
             if token.kind() == TokenKind::GetWord {
-                return match returns_harmless(text, tokens, &Body::Block(*body)) {
-                    Some(is) => Some(is),
-                    None => None,
-                };
+                return returns_harmless(text, tokens, &Body::Block(*body));
             }
-            Some(false)
+            false
         }
-        None => Some(false),
+        None => false,
     }
 }
 
-/// What a method is; none where its key is unknown, or where it is none.
-#[tactic(auto, using(crate::proofs::objects_lemmas::Forms::is_method, crate::proofs::objects_lemmas::Forms::is_typed_method))]
-fn method<'a>(text: &str, tokens: &[Token], it: &Prop<'a>) -> Option<Property<'a>>
-    ensures { (r : Range) → IfSome result (λ told. IsProperty text.now tokens.now told (the_prop text.now tokens.now r it.now)) }
+/// What a property is, by its view.
+#[tactic(auto, using(crate::proofs::objects_lemmas::Forms::is_method, crate::proofs::objects_lemmas::Forms::is_typed_method, crate::proofs::objects_lemmas::Forms::is_accessor, crate::proofs::objects_lemmas::Forms::is_typed_accessor, crate::proofs::objects_lemmas::Forms::is_key_value, crate::proofs::objects_lemmas::Forms::is_shorthand, crate::proofs::objects_lemmas::Forms::is_spread))]
+fn view_property<'a>(text: &str, tokens: &[Token], it: &Prop<'a>) -> Property<'a>
+    ensures { (r : Range) → IsProperty text.now tokens.now result (the_prop text.now tokens.now r it.now) }
 {
     match *it {
-        Prop::Method { key, body, .. } => {
-            let name = key_look(&key)?;
-            Some(Property {
-                name,
-                is_export: true,
-                function: Some(Body::Block(body)),
-                spread: None,
-            })
-        }
-        Prop::TypedMethod { key, body, .. } => {
-            let name = key_look(&key)?;
-            Some(Property {
-                name,
-                is_export: true,
-                function: Some(Body::Block(body)),
-                spread: None,
-            })
-        }
-        _ => None,
-    }
-}
-
-/// What an accessor is; none where a part of it is unknown, or where it is none.
-#[tactic(auto, using(crate::proofs::objects_lemmas::Forms::is_accessor, crate::proofs::objects_lemmas::Forms::is_typed_accessor))]
-fn accessor<'a>(text: &str, tokens: &[Token], it: &Prop<'a>) -> Option<Property<'a>>
-    ensures { (r : Range) → IfSome result (λ told. IsProperty text.now tokens.now told (the_prop text.now tokens.now r it.now)) }
-{
-    match *it {
+        Prop::Method { key, body, .. } => Property {
+            name: key_look(&key),
+            is_export: true,
+            function: Some(Body::Block(body)),
+            spread: None,
+        },
+        Prop::TypedMethod { key, body, .. } => Property {
+            name: key_look(&key),
+            is_export: true,
+            function: Some(Body::Block(body)),
+            spread: None,
+        },
         Prop::Accessor {
             sign,
             key,
             body,
             ..
-        } => {
-            let name = key_look(&key)?;
-            let is_export = accessor_exports(text, tokens, sign, &body)?;
-            Some(Property {
-                name,
-                is_export,
-                function: None,
-                spread: None,
-            })
-        }
+        } => Property {
+            name: key_look(&key),
+            is_export: accessor_exports(text, tokens, sign, &body),
+            function: None,
+            spread: None,
+        },
         Prop::TypedAccessor {
             sign,
             key,
             body,
             ..
-        } => {
-            let name = key_look(&key)?;
-            let is_export = accessor_exports(text, tokens, sign, &body)?;
-            Some(Property {
-                name,
-                is_export,
-                function: None,
-                spread: None,
-            })
-        }
-        _ => None,
-    }
-}
-
-/// What a property is that is no method and no accessor; none where a part of it is unknown.
-#[tactic(auto, using(crate::proofs::objects_lemmas::Forms::is_key_value, crate::proofs::objects_lemmas::Forms::is_shorthand, crate::proofs::objects_lemmas::Forms::is_spread))]
-fn valued_property<'a>(text: &str, tokens: &[Token], it: &Prop<'a>) -> Option<Property<'a>>
-    ensures { (r : Range) → IfSome result (λ told. IsProperty text.now tokens.now told (the_prop text.now tokens.now r it.now)) }
-{
-    match *it {
-        Prop::KeyValue { key, value } => {
-            let name = key_look(&key)?;
-            let function = value_function(text, tokens, &value)?;
-            Some(Property {
-                name,
-                is_export: true,
-                function,
-                spread: None,
-            })
-        }
-        Prop::Shorthand(name) => Some(Property {
+        } => Property {
+            name: key_look(&key),
+            is_export: accessor_exports(text, tokens, sign, &body),
+            function: None,
+            spread: None,
+        },
+        Prop::KeyValue { key, value } => Property {
+            name: key_look(&key),
+            is_export: true,
+            function: value_function(text, tokens, &value),
+            spread: None,
+        },
+        Prop::Shorthand(name) => Property {
             name: Look::Named(name),
             is_export: true,
             function: None,
             spread: None,
-        }),
-        Prop::Spread(expr) => Some(Property {
+        },
+        Prop::Spread(expr) => Property {
             name: Look::Other,
             is_export: false,
             function: None,
             spread: Some(expr),
-        }),
-        _ => None,
+        },
+        Prop::Broken => Property {
+            name: Look::Other,
+            is_export: false,
+            function: None,
+            spread: None,
+        },
     }
 }
 
-/// What a property is; none where a part of it is unknown.
-pub fn property_at<'a>(text: &str, tokens: &[Token], it: &Item<'a>) -> Option<Property<'a>>
-    ensures { IfSome result (λ told. IsProperty text.now tokens.now told (prop_in (valued text.now tokens.now it.now))) }
+/// What a property is.
+#[tactic(auto, using(crate::proofs::Unknown::property_unknown))]
+pub fn property_at<'a>(text: &str, tokens: &[Token], it: &Item<'a>) -> Property<'a>
+    ensures { IsProperty text.now tokens.now result (prop_in (valued text.now tokens.now it.now)) }
 {
     match prop_at(it) {
-        Some(view) => match view {
-            Prop::Method { .. } => method(text, tokens, &view),
-            Prop::TypedMethod { .. } => method(text, tokens, &view),
-            Prop::Accessor { .. } => accessor(text, tokens, &view),
-            Prop::TypedAccessor { .. } => accessor(text, tokens, &view),
-            _ => valued_property(text, tokens, &view),
-        },
-        None => None,
+        Some(view) => view_property(text, tokens, &view),
+        None => view_property(text, tokens, &Prop::Broken),
     }
 }

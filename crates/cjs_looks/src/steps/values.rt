@@ -1,56 +1,47 @@
 //! What names and strings say.
 
-ghost use Rattle.std.specs.Prelude.{◌≡◌, ℕ, List, IfOk, slice_range, bytes_eq, codes};
-ghost use Rattle.cjs_facts.specs.Looks.{text};
+ghost use Rattle.std.specs.Prelude.{◌≡◌, ℕ, List, IfOk, bytes_eq, codes};
+ghost use Rattle.es_bound_names.specs.Cuts.{IsCut};
 ghost use Rattle.cjs_facts.specs.Exports.{says, exports_like, is_exports, is_exports_object, is_define, is_star_word, is_star};
 ghost use Rattle.cjs_looks.specs.Seen.{name_at, text_at, key_of, object_of, look_of};
-ghost use Rattle.cjs_looks.specs.steps.Values.{value_by};
+ghost use Rattle.cjs_looks.specs.steps.Values.{text_by, value_by};
 
 use crate::{Key, Look, Object, spells, token_at};
 use base::Text;
+use es_bound_names::cut;
 use es_literal::{LiteralValue, literal_value};
 use es_token::Token;
 use std::alloc::{AllocError, Global};
 
-/// The text of a token, where it is cut between characters.
-fn cut(text: &str, token: Token) -> Result<&str, AllocError>
-    ensures { IfOk result (λ piece. piece.now ≡ slice_range text.now token.range.start token.range.end) }
-{
-    let range = token.range();
-    let (start, end) = (range.start, range.end);
-    if start <= end && text.is_char_boundary(start) && text.is_char_boundary(end) {
-        return Ok(&text[start..end]);
-    }
-    Err(AllocError)
-}
-
-/// The name that the token of this number is.
+/// The name that the token of this number is. One that isn't there is the empty one.
 #[tactic(auto, unfolding(es_lowering::specs::Texts::ident_of))]
 pub fn name_value(alloc: Global, text: &str, tokens: &[Token], at: u32) -> Result<Text, AllocError>
+    requires { IsCut text.now tokens.now }
     ensures { IfOk result (λ name. name ≡ name_at text.now tokens.now at) }
 {
     match token_at(tokens, at) {
-        Some(token) => Text::from_str(alloc, cut(text, token)?),
-        None => Err(AllocError),
+        Some(token) => Text::from_str(alloc, cut(text, token)),
+        None => Text::from_str(alloc, ""),
     }
 }
 
-/// The value of the string literal that the token of this number is.
+/// The value of the string literal that the token of this number is, if it is there.
 #[tactic(auto, unfolding(es_lowering::specs::Texts::str_of))]
 pub fn string_value(
     alloc: Global,
     source: &str,
     tokens: &[Token],
     at: u32,
-) -> Result<LiteralValue, AllocError>
-    ensures { IfOk result (λ value. text_at source.now tokens.now at ≡ text value.lone value.text) }
+) -> Result<Option<LiteralValue>, AllocError>
+    requires { IsCut source.now tokens.now }
+    ensures { IfOk result (λ value. text_at source.now tokens.now at ≡ text_by value) }
 {
     match token_at(tokens, at) {
         Some(token) => {
-            let value = literal_value(alloc, cut(source, token)?)?;
-            Ok(value)
+            let value = literal_value(alloc, cut(source, token))?;
+            Ok(Some(value))
         }
-        None => Err(AllocError),
+        None => Ok(None),
     }
 }
 
@@ -61,10 +52,18 @@ pub fn plain_value(
     tokens: &[Token],
     at: u32,
 ) -> Result<Option<Text>, AllocError>
+    requires { IsCut source.now tokens.now }
     ensures { IfOk result (λ value. value ≡ value_by (text_at source.now tokens.now at)) }
 {
-    let LiteralValue { text, lone } = string_value(alloc, source, tokens, at)?;
-    if lone { Ok(None) } else { Ok(Some(text)) }
+    match string_value(alloc, source, tokens, at)? {
+        Some(LiteralValue { text, lone }) => {
+            if lone {
+                return Ok(None);
+            }
+            Ok(Some(text))
+        }
+        None => Ok(None),
+    }
 }
 
 /// Whether a key says this word.
@@ -76,6 +75,7 @@ pub fn says(
     key: Key,
     word: &str,
 ) -> Result<bool, AllocError>
+    requires { IsCut text.now tokens.now }
     ensures { IfOk result (λ is. is ≡ says (key_of text.now tokens.now key) word.now) }
 {
     match key {
@@ -96,6 +96,7 @@ pub fn is_exports_object(
     tokens: &[Token],
     object: Object,
 ) -> Result<bool, AllocError>
+    requires { IsCut text.now tokens.now }
     ensures { IfOk result (λ is. is ≡ is_exports_object (object_of text.now tokens.now object)) }
 {
     match object {
@@ -118,6 +119,7 @@ pub fn exports_like(
     tokens: &[Token],
     look: Look,
 ) -> Result<bool, AllocError>
+    requires { IsCut text.now tokens.now }
     ensures { IfOk result (λ is. is ≡ exports_like (look_of text.now tokens.now look)) }
 {
     match look {

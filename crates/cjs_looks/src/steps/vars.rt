@@ -2,6 +2,7 @@
 
 ghost use Rattle.std.specs.Prelude.{◌≡◌, ℕ, List, Some, IfOk, OnOk, bytes_eq};
 ghost use Rattle.std.specs.Option.{option_copied};
+ghost use Rattle.es_bound_names.specs.Cuts.{IsCut};
 ghost use Rattle.cjs_facts.specs.Exports.{var_in, module_at, starred, bind, key_found, required_found};
 ghost use Rattle.cjs_looks.specs.Seen.{name_at, key_of, look_of};
 
@@ -76,6 +77,7 @@ pub fn module_value(
 /// `__exportStar(a)`
 #[tactic(auto, using(crate::proofs::steps_lemmas::Strings::starred_text, crate::proofs::steps_lemmas::Strings::starred_value, crate::proofs::steps_lemmas::Strings::starred_nothing))]
 pub fn star(found: &mut Found, text: &str, tokens: &[Token], first: Look) -> Result<(), AllocError>
+    requires { IsCut text.now tokens.now }
     ensures { OnOk result (found.new ≡ starred (look_of text.now tokens.now first) found.old) }
 {
     match first {
@@ -102,6 +104,7 @@ pub fn bind(
     name: u32,
     value: Look,
 ) -> Result<(), AllocError>
+    requires { IsCut text.now tokens.now }
     ensures { OnOk result (found.new ≡ bind (Some (name_at text.now tokens.now name)) (look_of text.now tokens.now value) found.old) }
 {
     match value {
@@ -131,6 +134,7 @@ pub fn set_key(
     key: Key,
     right: Look,
 ) -> Result<(), AllocError>
+    requires { IsCut text.now tokens.now }
     ensures { OnOk result (found.new ≡ key_found (key_of text.now tokens.now key) (look_of text.now tokens.now right) found.old) }
 {
     let alloc = found.allocator();
@@ -159,6 +163,7 @@ pub fn set_exports(
     tokens: &[Token],
     right: Look,
 ) -> Result<(), AllocError>
+    requires { IsCut text.now tokens.now }
     ensures { OnOk result (found.new ≡ required_found (look_of text.now tokens.now right) found.old) }
 {
     match right {

@@ -1,4 +1,3 @@
-use Rattle.std.specs.Prelude.{Some}
 use Rattle.es_syntax.specs.Held.{valued}
 use Rattle.es_syntax.specs.Roles.{expr_in}
 use Rattle.cjs_looks.specs.Seen.{look_of}
@@ -9,5 +8,5 @@ pub returns-in-Some : goal.returns-in-Some
 returns-in-Some c =
     let x = c.args.text.now in
     let ts = c.args.tokens.now in
-    brackets_second (expr_in (valued x ts c.args.inner.now)) (expr_in (valued x ts c.in-Some-Some.second))
-    (look_of x ts c.in-Some.look) (rw c.in-Some-Some.field-0-is at c.in-Some-Some.ensures) c.in-Some.ensures
+    brackets_second (expr_in (valued x ts c.args.inner.now)) (expr_in (valued x ts c.in-Some.second))
+    (look_of x ts c.look_at.result) c.in-Some.ensures c.look_at.ensures

@@ -17,9 +17,6 @@ decreases-operator_kind l = 8 * length l.it.now.parts.entries.now + 5
 abbrev pub decreases-call_kind : goal.decreases-call_kind
 decreases-call_kind l = 8 * length l.it.now.parts.entries.now + 4
 
-abbrev pub decreases-chain_look : goal.decreases-chain_look
-decreases-chain_look l = 8 * length l.it.now.parts.entries.now + 3
-
 abbrev pub decreases-posts_look : goal.decreases-posts_look
 decreases-posts_look l = 8 * length l.posts.now.entries.now + 2
 
@@ -29,8 +26,8 @@ decreases-turn_look l = 8 * length l.turn.now.parts.entries.now + 1
 abbrev pub decreases-post_look : goal.decreases-post_look
 decreases-post_look l = 8 * length l.it.now.parts.entries.now + 7
 
-abbrev pub decreases-called : goal.decreases-called
-decreases-called l = 8 * length l.args.now.parts.entries.now + 3
+abbrev pub decreases-call_look : goal.decreases-call_look
+decreases-call_look l = 8 * length l.args.now.parts.entries.now + 3
 
 abbrev pub decreases-named_call : goal.decreases-named_call
 decreases-named_call l = 8 * length l.args.now.parts.entries.now + 2
