@@ -205,12 +205,12 @@ class Rules(Project):
         for rules in ({}, {"forbidden": [{"to": {"path": "*/vendor/*", "typeOnly": False}}]}, {"allowed": [{"from": {"path": "file:///*"}}]},
                       {"modules": {"allowed": [{"module": {"scheme": ["file", "npm"]}}]}}):
             status, out, _ = self.checked(rules)
-            self.assertEqual((status, out.splitlines()[-2:]), (0, ["rules: 7 entries and edges looked at, none forbidden", "no faults; status 0"]))
+            self.assertEqual((status, out.splitlines()[-2:]), (0, ["rules: 7 entries and edges looked at, none breaks one", "no faults; status 0"]))
 
     def test_a_forbidden_edge(self):
         status, out, _ = self.checked({"forbidden": [{"to": {"kind": "dynamic", "path": "*.js"}}, {"name": "no tests", "comment": "they aren't shipped", "to": {"path": "*.test.ts"}}]})
         self.assertEqual((status, out.splitlines()[:3]), (1, ['src/a.ts:3:8: "./c.test": "no tests" forbids it: they aren\'t shipped', '    import("./c.test");', "           ^~~~~~~~~~"]))
-        self.assertEqual(out.splitlines()[-2:], ["rules: one forbids something", "no faults; status 1"])
+        self.assertEqual(out.splitlines()[-2:], ["rules: one is broken", "no faults; status 1"])
 
     def test_the_first_in_the_order_of_the_report(self):
         rules = {"modules": {"forbidden": [{"module": {"path": "*.ts", "pathNot": ["*/a.ts", "*/b.ts"]}}]}}
@@ -220,8 +220,16 @@ class Rules(Project):
         status, out, _ = self.checked({"allowed": [{"to": {"path": "*/src/*"}}]})
         self.assertEqual((status, out.splitlines()[0]), (1, 'src/a.ts:2:24: "../vendor/t": no rule of allowed fits it'))
 
+    def test_a_required_edge(self):
+        for rules in ({"required": [{"module": {"path": "*/a.ts"}, "to": {"path": "*.test.ts", "dynamic": True}}]}, {"required": [{"module": {"path": "*.tsx"}, "to": {"path": []}}]}):
+            self.assertEqual(self.checked(rules)[0], 0)
+        rules = {"required": [{"module": {"path": "*/a.ts"}, "to": {"path": "*/b.ts"}}, {"name": "all use types", "module": {"path": "*/src/*"}, "to": {"path": "*/vendor/*"}}]}
+        status, out, _ = self.checked(rules)
+        self.assertEqual((status, out.splitlines()[0], out.splitlines()[-2:]), (1, 'src/b.ts: "all use types" requires an edge that it lacks', ["rules: one is broken", "no faults; status 1"]))
+        self.assertEqual(self.checked({"required": [{"to": {"path": "*/x.ts"}}]})[1].splitlines()[0], "src/a.ts: rule 0 requires an edge that it lacks")
+
     def test_rules_that_are_none(self):
-        for rules, at in (([], "/"), ({"forbidden": [{"from": {"pathNot": 1}}]}, "/forbidden/0/from/pathNot"), ({"forbid": []}, "/forbid"), ({"modules": {"allowed": [{"modul": {}}]}}, "/modules/allowed/0/modul")):
+        for rules, at in (([], "/"), ({"forbidden": [{"from": {"pathNot": 1}}]}, "/forbidden/0/from/pathNot"), ({"forbid": []}, "/forbid"), ({"required": [{"to": {"reachable": True}}]}, "/required/0/to/reachable"), ({"required": {}}, "/required"), ({"modules": {"allowed": [{"modul": {}}]}}, "/modules/allowed/0/modul")):
             status, out, told = self.checked(rules)
             self.assertEqual((status, out, told), (2, "", f"joravelsu: rules.json: no rules: {at}\n"))
 
