@@ -359,11 +359,11 @@ def with_calls_visible(module, kit, room):
 def compile_both(told):
     """The program and the library, compiled in one go and kept."""
     begin(told)
-    kit = kits.kit()
+    kit, programs, library_file = kits.kit(), name_of_programs(), name_of_library()
     with a_room() as room, Clock(f"{told}: the program and the library are compiled without their proofs, once, in some three minutes"):
         module = module_of(LIBRARY, kit, room, joined_sources(room))
-        kits.keep(linked(object_of(module, kit, room), kit, room), name_of_programs(), ".unproved", MOST_KEPT)
-        kits.keep(object_of(with_calls_visible(module, kit, room), kit, room, "-fPIC"), name_of_library(), ".unproved.o")
+        kits.keep(linked(object_of(module, kit, room), kit, room), programs, ".unproved", MOST_KEPT)
+        kits.keep(object_of(with_calls_visible(module, kit, room), kit, room, "-fPIC"), library_file, ".unproved.o")
 
 
 def program(told="unproved"):
@@ -382,7 +382,9 @@ def made(name, told):
     with alone("joravelsu", told):
         if not used(name):
             compile_both(told)
-        return used(name)
+    if not used(name):
+        raise Failed("its sources changed meanwhile: call again")
+    return used(name)
 
 
 def main():
