@@ -11,47 +11,29 @@ import subprocess
 import sys
 
 ROOT = os.path.dirname(os.path.dirname(os.path.abspath(__file__)))
+sys.path.insert(0, os.path.join(ROOT, "tools"))
+from parts import kit as kits  # noqa: E402
+
 RUNS = 5
 MORE = 20
 MORE_COUNTED = 2
 SMALL, LARGE = 1 << 20, 1 << 24
 
 
-def rows_below(crates):
-    """The rows of crates.txt of these crates and of all crates below them, those below first."""
-    with open(os.path.join(ROOT, "crates.txt"), encoding="utf-8") as file:
-        rows = [line.split("#")[0].strip() for line in file]
-    rows = {row.split(":")[0].split()[0]: row for row in rows if row}
-    found = {}
-
-    def add(crate):
-        if crate in rows and crate not in found:
-            for below in rows[crate].partition(":")[2].split():
-                add(below)
-            found[crate] = rows[crate]
-
-    for crate in crates:
-        add(crate)
-    return found
-
-
 def make_program(folder, name, crates, main, printed):
     """Proves and builds a program of this main over copies of these crates; `printed` is what it prints of no input.
 
-    What the gate proved of the same files on this machine isn't proved again.
+    What the gate proved of the same files on this machine isn't proved again, if the toolchain's rt ci caches proofs.
     """
-    rows = rows_below(crates)
-    for crate in rows:
-        at, copy = os.path.join(ROOT, "crates", crate), os.path.join(folder, "crates", crate)
-        shutil.copytree(at, copy, ignore=lambda where, _, at=at: ("out", "must-fail") if where == at else ())
+    listed = kits.listed_crates()
+    kits.copy_crates(ROOT, set().union(*(kits.crates_below(crate, listed) for crate in crates)), folder)
     where = os.path.join(folder, "crates", name)
     os.makedirs(os.path.join(where, "src"))
     for file, text in (("src/main.rt", main), ("stdin", ""), ("stdout", printed)):
         with open(os.path.join(where, file), "w") as made:
             made.write(text)
-    shutil.copyfile(os.path.join(ROOT, "HANDLES"), os.path.join(folder, "HANDLES"))
-    with open(os.path.join(folder, "crates.txt"), "w") as file:
-        file.write("\n".join([*rows.values(), f"{name}: {' '.join(crates)}"]) + "\n")
+    with open(os.path.join(folder, "crates.txt"), "a") as file:
+        file.write(f"{name}: {' '.join(crates)}\n")
     subprocess.run(["rt", "ci"], cwd=folder, check=True, stdout=subprocess.DEVNULL)
     return os.path.join(where, "out", name)
 

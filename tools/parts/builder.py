@@ -268,6 +268,11 @@ class Library:
         fault = self.fault_of(data, MEDIA_TYPES.get(sites.ending_of(specifier) or ".js"))
         return len(data[:fault.place].decode("utf-8", "surrogatepass")) if fault and fault.status == NO_PROGRAM else None
 
+    def kind_of(self, specifier, text):
+        """The name of what is wrong with a text that is no program."""
+        fault = self.fault_of(text.encode("utf-8", "surrogatepass"), MEDIA_TYPES.get(sites.ending_of(specifier) or ".js"))
+        return fault.kind if fault else None
+
 
 def quoted(text):
     """A text as a JSON string."""

@@ -35,7 +35,7 @@ def add_options(parser):
     add("--external", action="append", default=[], metavar="GLOB", help="what these specifiers name is external, such as 'https://*' or react")
     add("--packages", action="store_true", help="read packages of node_modules, by their package.json")
     add("--conditions", type=names_in, default=[], metavar="NAME,..", help="conditions of packages, besides import, module and default")
-    add("--commonjs", action="store_true", help="calls of require are imports too, and lead where Node leads them")
+    add("--commonjs", action="store_true", help="calls of require are imports too, and resolve as in Node")
     add("--type-imports", action="store_true", help='types import("a") are imports too')
     add("--workers", action="store_true", help='new Worker(new URL("a", import.meta.url)) is an import too')
     add("--addresses", action="store_true", help='new URL("a", import.meta.url) and import.meta.resolve("a") are edges too')

@@ -29,8 +29,12 @@ KEPT = kept_folder()
 VERSION = "0.1.0"
 # What a release has in the place of sources and a toolchain, in a file of this name.
 RELEASE = os.path.join(ROOT, "RELEASE")
+# What a copy of a crate does without.
+LEFT_OUT = ("out", "must-fail", "edits")
+# The toolchain's rt, where it is called for many crates.
+RT = (sys.executable, os.path.join(os.path.dirname(os.path.abspath(__file__)), "rt.py"))
 # The versions of the toolchain with which the gate was run.
-TRIED = ("rattle-kit-13f",)
+TRIED = ("rattle-kit-13b", "rattle-kit-13f")
 
 
 class NoKit(NoGraph):
@@ -62,11 +66,44 @@ def other_version():
     return f"the toolchain is {found}, and the gate was run with {' and '.join(TRIED)}"
 
 
+def side_by_side(bytes_each):
+    """How many processes that take so much memory may run at a time."""
+    import re
+
+    with open("/proc/meminfo", encoding="ascii") as file:
+        free = int(re.search(r"MemAvailable: *(\d+)", file.read())[1]) * 1024
+    return max(1, min(len(os.sched_getaffinity(0)), free // bytes_each))
+
+
 def listed_crates():
     """What each crate of crates.txt names: other crates, libraries of the toolchain, and whether it is a static library."""
     with open(os.path.join(ROOT, "crates.txt"), encoding="utf-8") as file:
         rows = [line.split("#")[0].partition(":") for line in file]
     return {head.split()[0]: words.split() + head.split()[1:2] for head, _, words in rows if head.strip()}
+
+
+def keeps_proofs():
+    """Whether this toolchain's rt ci keeps what it proved for the next one, and takes names of crates."""
+    import subprocess
+
+    said = subprocess.run(["rt", "help"], capture_output=True, text=True, check=False)
+    return "What a run passed is kept" in said.stdout + said.stderr
+
+
+def copy_crates(root, crates, to):
+    """Copies these crates of a repository, with their lines of crates.txt and HANDLES, without mutants and without what was built."""
+    import shutil
+
+    for crate in crates:
+        at = f"{root}/crates/{crate}"
+        # of the crate's own folder alone: a proof may be in proofs/rewrite/edits/
+        shutil.copytree(at, f"{to}/crates/{crate}", ignore=lambda folder, _, at=at: LEFT_OUT if folder == at else ())
+    with open(f"{root}/crates.txt", encoding="utf-8") as file:
+        lines = [line for line in file if line.split("#")[0].partition(":")[0].split()[:1] and line.split()[0].rstrip(":") in crates]
+    with open(f"{to}/crates.txt", "w", encoding="utf-8") as file:
+        file.writelines(lines)
+    if os.path.exists(f"{root}/HANDLES"):
+        shutil.copyfile(f"{root}/HANDLES", f"{to}/HANDLES")
 
 
 def crates_below(name, listed):

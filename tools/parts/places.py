@@ -254,7 +254,7 @@ def reason_at(search, number, specifier):
         return form
     if token.is_sign("<") and not token.was_operand:
         if typed and not specifier.lower().endswith(".tsx"):
-            return f"<T>x, a type in front of an expression, {LEFT_OUT}: write x as T"
+            return "<T>x, a type in front of an expression, is read with --all-forms alone: write x as T"
         return f"JSX, {LEFT_OUT}"
     if token.is_sign("/", "/=") and before is not None and before.is_sign("}"):
         return f"a regular expression right after }}, {LEFT_OUT}: put a ; in front"

@@ -96,11 +96,19 @@ class Program:
 
     def stop_of(self, specifier, text):
         """The character, from 0, of the token at which reading stops; None where a part of the text is no token."""
+        kind, place = self.fault_in(specifier, text)
+        return len(text.encode("utf-8", "surrogatepass")[:place].decode("utf-8", "surrogatepass")) if kind == "Syntax" else None
+
+    def kind_of(self, specifier, text):
+        """The name of what is wrong with a text that is no program."""
+        return self.fault_in(specifier, text)[0]
+
+    def fault_in(self, specifier, text):
+        """The name of what is wrong with a text, and its byte; None for both where nothing is."""
         name = "file:///module" + (sites.ending_of(specifier) or ".js")
         bundle = json.dumps({"roots": [name], **self.forms, "modules": [{"specifier": name, "text": text}]}).encode("utf-8", "surrogatepass")
-        found = [line.split(" ") for line in self.told("faults", bundle)]
-        data = text.encode("utf-8", "surrogatepass")
-        return len(data[:int(found[0][3])].decode("utf-8", "surrogatepass")) if found and found[0][2] == "Syntax" else None
+        found = [line.split(" ") for line in self.told("faults", bundle) if line.startswith(f"fault {name} ")]
+        return (found[0][2], int(found[0][3])) if found else (None, None)
 
 
 def main():

@@ -17,7 +17,7 @@ RULES = {
     "DataUrl": "A data: URL holds nothing", "PackageReference": "A specifier names no package", "InvalidDowngrade": "An import leads from https to http",
     "InvalidLocalImport": "An import leads from the web to a local file", "InvalidTypeAssertion": "An import attribute doesn't fit the module",
     "InvalidSourcePhase": "A source is imported of what isn't WebAssembly", "Refused": "An import map refuses a specifier",
-    "policy": "A rule forbids an entry or an edge", "mention": "Something that the graph doesn't show", "unread": "A call that may load a module and is no edge", "cycle": "Modules that load each other",
+    "policy": "An entry or an edge breaks a rule", "mention": "Something that the graph doesn't show", "unread": "A call that may load a module and is no edge", "cycle": "Modules that load each other",
 }
 
 

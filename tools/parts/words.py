@@ -174,7 +174,7 @@ def run(name, main, wrong=1):
     """Runs a tool's main over its words, and ends with its status."""
     try:
         sys.exit(main(sys.argv[1:]))
-    except Wrong as error:
+    except (Wrong, NoGraph) as error:
         say(name, str(error))
         status = wrong
     except BrokenPipeError:

@@ -4,10 +4,14 @@ import importlib.machinery
 import importlib.util
 import io
 import os
+import sys
 import tempfile
 import unittest
 
 TOOL = os.path.join(os.path.dirname(os.path.dirname(os.path.abspath(__file__))), "check-edits")
+sys.path.insert(0, os.path.dirname(TOOL))
+from tests.rooms import Room  # noqa: E402
+
 LOADER = importlib.machinery.SourceFileLoader("check_edits", TOOL)
 SPEC = importlib.util.spec_from_loader("check_edits", LOADER)
 check_edits = importlib.util.module_from_spec(SPEC)
@@ -26,19 +30,10 @@ FILES = {
 EDIT = ("high", "a.edit")
 
 
-class Edits(unittest.TestCase):
+class Edits(Room):
     def setUp(self):
-        room = tempfile.TemporaryDirectory()
-        self.addCleanup(room.cleanup)
-        self.room = room.name
-        for path, text in FILES.items():
-            self.write(path, text)
-
-    def write(self, path, text):
-        place = os.path.join(self.room, path)
-        os.makedirs(os.path.dirname(place), exist_ok=True)
-        with open(place, "w", encoding="utf-8") as file:
-            file.write(text)
+        super().setUp()
+        self.put(FILES)
 
     def repository(self):
         return check_edits.Repository(self.room)
@@ -126,21 +121,48 @@ for edit in crates/*/must-fail/*.edit; do
   echo "rt: must-fail ${crate%%/*}/${edit##*/}: $said"
 done
 """
+# Another, whose `ci` keeps nothing and whose `must-fail` takes any edit of a crate that isn't proved as refused.
+KEEPS_NOTHING = """#!/bin/sh
+folder=$(basename "$PWD")
+case "$1" in
+  version) echo rattle-kit-0 ;;
+  help) ;;
+  lib)
+    echo "rt lib $folder" >> "${0%rt}called"
+    case " $(cat "${0%rt}unproved") " in *" $folder "*) echo "rt: $folder NOT PROVED"; exit 1 ;; esac
+    mkdir -p out/rlib && touch out/rlib/stamp
+    ;;
+  must-fail)
+    echo "rt must-fail $2: $(ls -d crates/*/out/rlib | wc -l)" >> "${0%rt}called"
+    for edit in crates/"$2"/must-fail/*.edit; do
+      echo "rt: must-fail $2/${edit##*/}: refused, as it must be: src/lib.rt:1:1: error"
+    done
+    ;;
+  *) exit 2 ;;
+esac
+"""
+# tools/prove: each crate of the repository.
+PROVE = """import subprocess, sys
+print("prove:", sys.argv[1])
+with open("bin/called", "a") as file:
+    file.write(f"prove {sys.argv[1]}\\n")
+for crate in ("low", sys.argv[1]):
+    if subprocess.run(["rt", "lib"], cwd=f"crates/{crate}", check=False).returncode:
+        sys.exit(70)
+"""
 EDITS = {f"crates/{crate}/edits/{name}.edit": f"file: src/lib.rt\nold: {old}\nnew: six\n" for crate, old in (("low", "one"), ("side", "three")) for name in "ab"}
 
 
-class Runs(unittest.TestCase):
+class Runs(Room):
     """Whole runs, over a toolchain that is a stand-in."""
 
     def setUp(self):
-        room = tempfile.TemporaryDirectory()
-        self.addCleanup(room.cleanup)
-        self.room, old = room.name, (check_edits.ROOT, check_edits.MOST_AT_ONCE, os.environ["PATH"])
+        super().setUp()
+        old = (check_edits.ROOT, check_edits.MOST_AT_ONCE, os.environ["PATH"])
         check_edits.ROOT, check_edits.MOST_AT_ONCE = self.room, 2
         os.environ["PATH"] = f"{self.room}/bin:{old[2]}"
         self.addCleanup(lambda: (setattr(check_edits, "ROOT", old[0]), setattr(check_edits, "MOST_AT_ONCE", old[1]), os.environ.update(PATH=old[2])))
-        for path, text in {**FILES, **EDITS, "bin/rt": TOOLCHAIN, "bin/unproved": "", check_edits.TABLE: ""}.items():
-            Edits.write(self, path, text)
+        self.put({**FILES, **EDITS, "bin/rt": TOOLCHAIN, "bin/unproved": "", check_edits.TABLE: ""})
         os.chmod(f"{self.room}/bin/rt", 0o755)
 
     def run_of(self, *words):
@@ -177,7 +199,7 @@ class Runs(unittest.TestCase):
         self.assertIn("3, of high, side", lines[-1])
 
     def test_an_edit_that_is_not_refused_fails(self):
-        Edits.write(self, "crates/low/edits/b.edit", "file: src/lib.rt\nold: one\nnew: right\n")
+        self.write("crates/low/edits/b.edit", "file: src/lib.rt\nold: one\nnew: right\n")
         lines, status = self.run_of("--write")
         self.assertEqual(status, 1)
         self.assertIn("edits: low/b.edit: NOT REFUSED: the crate is still proved with this edit", lines)
@@ -185,7 +207,7 @@ class Runs(unittest.TestCase):
 
     def test_a_crate_that_is_not_proved_among_others_is_tried_once_more_alone(self):
         check_edits.MOST_AT_ONCE = 8
-        Edits.write(self, "bin/unproved", "side")
+        self.write("bin/unproved", "side")
         lines, status = self.run_of("--write")
         self.assertEqual((lines[0], status), ("edits: 5 are tried, of high, low, side", 0))
         again = lines.index("edits: 2 of side weren't tried, and are tried once more, it alone")
@@ -194,7 +216,7 @@ class Runs(unittest.TestCase):
 
     def test_a_crate_that_is_not_proved_alone_either_fails(self):
         check_edits.MOST_AT_ONCE = 8
-        Edits.write(self, "bin/unproved", "side !low")
+        self.write("bin/unproved", "side !low")
         lines, status = self.run_of("--write")
         self.assertEqual(status, 1)
         self.assertEqual([line for line in lines if "NOT TRIED" in line], [
@@ -203,7 +225,7 @@ class Runs(unittest.TestCase):
         self.assertEqual(self.table(), ["high/a.edit", "side/a.edit", "side/b.edit"])
 
     def test_a_crate_that_is_not_proved_is_left_when_the_seconds_are_gone(self):
-        Edits.write(self, "bin/unproved", "!low")
+        self.write("bin/unproved", "!low")
         clock, times = check_edits.time.monotonic, iter([0.0, 0.0] + [9.0] * 9)
         check_edits.time.monotonic = lambda: next(times)
         self.addCleanup(lambda: setattr(check_edits.time, "monotonic", clock))
@@ -212,7 +234,7 @@ class Runs(unittest.TestCase):
         self.assertIn("5, of high, low, side", lines[-1])
 
     def test_why_a_crate_is_not_proved_is_told(self):
-        Edits.write(self, "bin/unproved", "!low")
+        self.write("bin/unproved", "!low")
         lines, _ = self.run_of("low")
         first = lines[:lines.index("edits: 2 of low weren't tried, and are tried once more, it alone")]
         for told in ("fn low::middle: no proof: expected answers in ./proofs/middle/Answers.antt; `search` did not prove `result`",
@@ -223,11 +245,44 @@ class Runs(unittest.TestCase):
 
     def test_an_edit_whose_check_was_ended_is_tried_once_more(self):
         ended = TOOLCHAIN.replace("case \"$(cat", "mkdir \"${0%rt}once\" 2>&- && { echo \"rt: must-fail ${crate%%/*}/${edit##*/}: NOT TRIED: its check was killed\"; continue; }\n  case \"$(cat")
-        Edits.write(self, "bin/rt", ended)
+        self.write("bin/rt", ended)
         lines, status = self.run_of("low")
         self.assertEqual(status, 0)
         self.assertIn("edits: tried in this run: 2, 2 of them refused, as they must be", lines)
         self.assertIn("edits: 1 of low weren't tried, and are tried once more, it alone", lines)
+
+    def called(self):
+        with open(f"{self.room}/bin/called", encoding="utf-8") as file:
+            return file.read().splitlines()
+
+    def test_a_kit_that_keeps_nothing_proves_each_crate_first(self):
+        self.put({"bin/rt": KEEPS_NOTHING, "tools/prove": PROVE, "bin/unproved": "side"})
+        lines, status = self.run_of("--write")
+        self.assertEqual(status, 1)
+        self.assertEqual(self.table(), ["high/a.edit", "low/a.edit", "low/b.edit"])
+        self.assertIn("rt: side NOT PROVED", "\n".join(lines))
+        self.assertEqual([line for line in lines if "NOT TRIED" in line], [
+            f"edits: side/{name}.edit: NOT TRIED: its crate is not proved, nor when it is tried alone" for name in "ab"])
+        # low has nothing below it; high has low, which is built by then, and its libraries are given to the copy
+        self.assertEqual(self.called()[:4], ["rt lib low", "rt must-fail low: 1", "rt lib high", "rt must-fail high: 2"])
+        self.assertNotIn("rt must-fail side: 1", self.called())
+
+    def test_a_kit_that_keeps_nothing_proves_what_is_not_built_side_by_side(self):
+        self.put({"bin/rt": KEEPS_NOTHING, "tools/prove": PROVE})
+        _, status = self.run_of("high")
+        self.assertEqual((self.called(), status), (["prove high", "rt lib low", "rt lib high", "rt must-fail high: 2"], 0))
+
+    def test_what_takes_too_long_to_prove_is_left(self):
+        self.put({"bin/rt": KEEPS_NOTHING, "tools/prove": PROVE, "bench/times": "low 2026-12-01 kit 1 900 900 0 0 0 0 machine\n"})
+        root = check_edits.kits.ROOT
+        check_edits.kits.ROOT = self.room
+        self.addCleanup(setattr, check_edits.kits, "ROOT", root)
+        lines, status = self.run_of("--seconds", "100", "high", "side")
+        self.assertEqual((status, os.path.exists(f"{self.room}/bin/called")), (0, False))
+        self.assertIn("3, of high, side", lines[-2])
+        # low has nothing below it; then it is built
+        lines, status = self.run_of("--seconds", "100")
+        self.assertEqual((status, lines[-1]), (0, "edits: tried in this run: 5, 5 of them refused, as they must be"))
 
     def test_refused_edits_say_nothing_of_why(self):
         self.assertEqual(check_edits.excerpt(["rt: must-fail low/a.edit: refused, as it must be: a.rt:1:1: error\n", *["\n"] * 30, "end\n"]), "..\n" + "\n" * 19 + "end\n")

@@ -74,11 +74,25 @@ class CheckLinks(unittest.TestCase):
         self.put("crates/parser/README.md", "# parser\n")
         self.assertEqual(self.told()[1], ["docs/ARCHITECTURE.md: it has no crate parser", "links: 5 pages, 1 faults"])
 
+    def test_a_crate_in_the_row_of_another_area(self):
+        self.put("docs/ARCHITECTURE.md", "# Crates\n\n| area | crates |\n|---|---|\n| reading | `lexer`, `reader`, `tree` |\n| end | `end` |\n")
+        for crate in ("reader", "tree", "end"):
+            self.put(f"crates/{crate}/README.md", f"# {crate}\n")
+        self.put("crates.txt", "# Reading\nlexer:\nreader: lexer\ntree: lexer\n\n# End\nend: tree\n")
+        self.assertEqual(self.told()[0], 0)
+        self.put("crates.txt", "# Reading\nlexer:\nreader: lexer\n\n# End\ntree: lexer\nend staticlib: tree\n")
+        self.assertEqual(self.told()[1][0], "docs/ARCHITECTURE.md: tree isn't in the row of its heading in crates.txt")
+
+    def test_a_crate_of_the_notice_that_is_gone(self):
+        self.put("NOTICE", "ported by: crates/lexer,\ncrates/reader\n")
+        self.assertEqual(self.told()[1], ["NOTICE: there is no crate reader", "links: 3 pages, 1 faults"])
+
     def test_a_crate_that_a_new_statement_visits(self):
         self.put("docs/ADDING.md", "# Adding\n\nA row.\n")
         self.assertEqual(self.told()[0], 0)
-        self.put("crates/lexer/specs/Plan.antt", "pub plan : ℕ\nplan = DoStatement\n")
-        self.assertEqual(self.told(), (1, ["docs/ADDING.md: it doesn't name lexer, which knows DoStatement", "links: 4 pages, 1 faults"]))
+        for known in ("DoStatement", "ConditionalType"):
+            self.put("crates/lexer/specs/Plan.antt", f"pub plan : ℕ\nplan = {known}\n")
+            self.assertEqual(self.told(), (1, [f"docs/ADDING.md: it doesn't name lexer, which knows {known}", "links: 4 pages, 1 faults"]))
         self.put("docs/ADDING.md", "# Adding\n\nA row of `lexer`.\n")
         self.assertEqual(self.told()[0], 0)
 

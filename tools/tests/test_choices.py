@@ -3,31 +3,19 @@ import json
 import os
 import subprocess
 import sys
-import tempfile
 import unittest
 
 TOOLS = os.path.dirname(os.path.dirname(os.path.abspath(__file__)))
 ROOT = os.path.dirname(TOOLS)
 sys.path.insert(0, TOOLS)
 from parts import resolve  # noqa: E402
+from tests.rooms import Room  # noqa: E402
 from tests.test_graph_tools import faults_of  # noqa: E402
 
 JORAVELSU = os.path.join(ROOT, "joravelsu")
 
 
-class Project(unittest.TestCase):
-    def setUp(self):
-        room = tempfile.TemporaryDirectory()
-        self.addCleanup(room.cleanup)
-        self.room = os.path.realpath(room.name)
-
-    def put(self, files):
-        for path, text in files.items():
-            place = os.path.join(self.room, path)
-            os.makedirs(os.path.dirname(place), exist_ok=True)
-            with open(place, "w", encoding="utf-8") as file:
-                file.write(text if isinstance(text, str) else json.dumps(text))
-
+class Project(Room):
     def ran(self, *words):
         done = subprocess.run([JORAVELSU, *words], capture_output=True, cwd=self.room, env={**os.environ, "JORAVELSU_QUIET": "1"}, check=False)
         return done.returncode, done.stdout.decode(), done.stderr.decode()
@@ -133,8 +121,40 @@ class FurtherForms(Project):
         self.put({**self.FILES, "joravelsu.json": {"workers": True, "typeImports": True, "addresses": False}})
         self.assertEqual(self.edges()[1], ["a.ts", "t.ts", "w.ts"])
 
-    def test_a_text_that_leads_to_two_files_is_told(self):
+    def packed(self, *words):
+        done = subprocess.run([os.path.join(TOOLS, "pack"), "--packages", *words[:-1], ".", words[-1]], stdout=subprocess.PIPE, cwd=self.room, check=True)
+        return json.loads(done.stdout)
+
+    DUAL = ("dynamic dual node_modules/dual/i.mjs", "require dual node_modules/dual/r.cjs")
+
+    def test_a_text_leads_to_two_files_by_two_forms(self):
+        for text in ('import("dual"); require("dual");', 'require("dual"); import("dual");'):
+            self.put({**self.FILES, "a.ts": text})
+            self.assertEqual(self.edges("--commonjs"), ([*self.DUAL], ["a.ts", "node_modules/dual/i.mjs", "node_modules/dual/r.cjs"]))
+            self.assertNotIn("by one form", self.ran("graph", "--commonjs", "a.ts")[2])
+
+    def test_a_call_leads_nowhere_where_an_import_leads_somewhere(self):
+        for only, found in (("import", [self.DUAL[0], "require dual "]), ("require", ["dynamic dual ", self.DUAL[1]])):
+            self.put({**self.FILES, "a.ts": 'import("dual"); require("dual");', "node_modules/dual/package.json": {"exports": {only: "./i.mjs" if only == "import" else "./r.cjs"}}})
+            self.assertEqual(self.edges("--commonjs")[0], found)
+
+    def test_the_maps_of_a_bundle(self):
+        self.put({**self.FILES, "a.ts": 'import("dual"); require("dual"); require.resolve("dual");', "b.ts": 'import "./a.ts"; require("./t");'})
+        bundle = self.packed("--commonjs", "a.ts")
+        self.assertEqual(bundle["importMap"]["map"], {"imports": {"dual": "file:///node_modules/dual/i.mjs"}})
+        self.assertEqual(bundle["requireMap"]["map"], {"imports": {"dual": "file:///node_modules/dual/r.cjs"}})
+        self.put({**self.FILES, "a.ts": 'import "./t"; require("dual");'})
+        self.assertNotIn("requireMap", self.packed("--commonjs", "a.ts"))
+        self.assertEqual(len(self.packed("--commonjs", "a.ts")["importMap"]["map"]["imports"]), 2)
+
+    def test_two_files_of_one_text_are_vendored(self):
         self.put({**self.FILES, "a.ts": 'import("dual"); require("dual");'})
+        self.assertEqual(self.ran("vendor", "--commonjs", "-o", "out", "a.ts")[0], 0)
+        with open(os.path.join(self.room, "out", "a.ts"), encoding="utf-8") as file:
+            self.assertEqual(file.read(), 'import("./node_modules/dual/i.mjs"); require("./node_modules/dual/r.cjs");')
+
+    def test_an_equals_import_of_two_files_is_told(self):
+        self.put({**self.FILES, "a.ts": 'import("dual"); import a = require("dual");'})
         told = self.ran("graph", "--commonjs", "a.ts")[2]
         self.assertIn('"dual" in a.ts is file:///node_modules/dual/i.mjs by one form and file:///node_modules/dual/r.cjs by another: the graph has the latter\n', told)
 
@@ -185,12 +205,12 @@ class Rules(Project):
         for rules in ({}, {"forbidden": [{"to": {"path": "*/vendor/*", "typeOnly": False}}]}, {"allowed": [{"from": {"path": "file:///*"}}]},
                       {"modules": {"allowed": [{"module": {"scheme": ["file", "npm"]}}]}}):
             status, out, _ = self.checked(rules)
-            self.assertEqual((status, out.splitlines()[-2:]), (0, ["rules: 7 entries and edges looked at, none forbidden", "no faults; status 0"]))
+            self.assertEqual((status, out.splitlines()[-2:]), (0, ["rules: 7 entries and edges looked at, none breaks one", "no faults; status 0"]))
 
     def test_a_forbidden_edge(self):
         status, out, _ = self.checked({"forbidden": [{"to": {"kind": "dynamic", "path": "*.js"}}, {"name": "no tests", "comment": "they aren't shipped", "to": {"path": "*.test.ts"}}]})
         self.assertEqual((status, out.splitlines()[:3]), (1, ['src/a.ts:3:8: "./c.test": "no tests" forbids it: they aren\'t shipped', '    import("./c.test");', "           ^~~~~~~~~~"]))
-        self.assertEqual(out.splitlines()[-2:], ["rules: one forbids something", "no faults; status 1"])
+        self.assertEqual(out.splitlines()[-2:], ["rules: one is broken", "no faults; status 1"])
 
     def test_the_first_in_the_order_of_the_report(self):
         rules = {"modules": {"forbidden": [{"module": {"path": "*.ts", "pathNot": ["*/a.ts", "*/b.ts"]}}]}}
@@ -200,8 +220,16 @@ class Rules(Project):
         status, out, _ = self.checked({"allowed": [{"to": {"path": "*/src/*"}}]})
         self.assertEqual((status, out.splitlines()[0]), (1, 'src/a.ts:2:24: "../vendor/t": no rule of allowed fits it'))
 
+    def test_a_required_edge(self):
+        for rules in ({"required": [{"module": {"path": "*/a.ts"}, "to": {"path": "*.test.ts", "dynamic": True}}]}, {"required": [{"module": {"path": "*.tsx"}, "to": {"path": []}}]}):
+            self.assertEqual(self.checked(rules)[0], 0)
+        rules = {"required": [{"module": {"path": "*/a.ts"}, "to": {"path": "*/b.ts"}}, {"name": "all use types", "module": {"path": "*/src/*"}, "to": {"path": "*/vendor/*"}}]}
+        status, out, _ = self.checked(rules)
+        self.assertEqual((status, out.splitlines()[0], out.splitlines()[-2:]), (1, 'src/b.ts: "all use types" requires an edge that it lacks', ["rules: one is broken", "no faults; status 1"]))
+        self.assertEqual(self.checked({"required": [{"to": {"path": "*/x.ts"}}]})[1].splitlines()[0], "src/a.ts: rule 0 requires an edge that it lacks")
+
     def test_rules_that_are_none(self):
-        for rules, at in (([], "/"), ({"forbidden": [{"from": {"pathNot": 1}}]}, "/forbidden/0/from/pathNot"), ({"forbid": []}, "/forbid"), ({"modules": {"allowed": [{"modul": {}}]}}, "/modules/allowed/0/modul")):
+        for rules, at in (([], "/"), ({"forbidden": [{"from": {"pathNot": 1}}]}, "/forbidden/0/from/pathNot"), ({"forbid": []}, "/forbid"), ({"required": [{"to": {"reachable": True}}]}, "/required/0/to/reachable"), ({"required": {}}, "/required"), ({"modules": {"allowed": [{"modul": {}}]}}, "/modules/allowed/0/modul")):
             status, out, told = self.checked(rules)
             self.assertEqual((status, out, told), (2, "", f"joravelsu: rules.json: no rules: {at}\n"))
 

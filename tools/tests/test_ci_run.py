@@ -54,6 +54,13 @@ class CiRun(unittest.TestCase):
         self.assertRegex(called[-1], r"^called edits --seconds (7200|71\d\d)$")
         self.assertEqual((lines[-1], status), ("7 passed, 0 failed", 0))
 
+    def test_without_cached_proofs_no_mutant_is_begun(self):
+        with open(f"{self.room}/bin/rt", "w", encoding="utf-8") as file:
+            file.write(TOOLCHAIN.replace("What a run passed is kept", "rt ci"))
+        lines, status = self.gate()
+        self.assertEqual([line for line in lines if line.startswith("called")][-1], "called edits --seconds 0")
+        self.assertEqual((lines[-1], status), ("7 passed, 0 failed", 0))
+
     def test_a_failing_test_ends_it(self):
         lines, status = self.gate(tried=(1, "2 passed, 1 failed: tests of a; 0.1 minutes"))
         self.assertNotIn("called rt ci", lines)

@@ -32,7 +32,7 @@ class Gate(unittest.TestCase):
     def test_saved_rows_are_read_again(self):
         rows = {(crate, day, kit.replace(" ", "-")): line for (crate, day, kit), line in ROWS.items()}
         with tempfile.TemporaryDirectory() as room:
-            gate.save_times(rows, f"{room}/times")
+            gate.save_times({**rows, ("gone", "2026-11-28", "kit-b"): ([1] * 7, "another")}, list(BELOW), f"{room}/times")
             self.assertEqual(gate.read_times(f"{room}/times"), rows)
 
     def test_a_crate_stands_in_the_latest_table_that_has_it(self):
@@ -45,6 +45,28 @@ class Gate(unittest.TestCase):
         self.assertNotIn("`low` | 3", second)
         self.assertIn("| `high` | 2 | 96 | 60 |", second)
         self.assertIn("Not read off: `alone`.", second)
+
+    def test_a_kit_that_keeps_nothing_proves_a_copy(self):
+        root, keeps = gate.ROOT, gate.kits.keeps_proofs
+        self.addCleanup(lambda: (setattr(gate, "ROOT", root), setattr(gate.kits, "ROOT", root), setattr(gate.kits, "keeps_proofs", keeps)))
+        with tempfile.TemporaryDirectory() as room, tempfile.TemporaryDirectory() as to:
+            gate.ROOT = gate.kits.ROOT = room
+            for crate in BELOW:
+                os.makedirs(f"{room}/crates/{crate}/src")
+                os.makedirs(f"{room}/crates/{crate}/out")
+            with open(f"{room}/crates.txt", "w", encoding="utf-8") as file:
+                file.write("# base\nlow:\nside: low\nhigh: low side url\nalone:\n")
+            gate.kits.keeps_proofs = lambda: True
+            self.assertEqual(gate.gate_of(["side"], True, to), (["rt", "ci", "--anew", "side"], room))
+            gate.kits.keeps_proofs = lambda: False
+            self.assertEqual(gate.gate_of([], True, to), (["rt", "ci"], room))
+            self.assertEqual(gate.gate_of(["side"], True, to), (["rt", "ci"], to))
+            self.assertEqual(sorted(os.listdir(f"{to}/crates")), ["low", "side"])
+            self.assertEqual(os.listdir(f"{to}/crates/low"), ["src"])
+            with open(f"{to}/crates.txt", encoding="utf-8") as file:
+                self.assertEqual(file.read(), "low:\nside: low\n")
+            with self.assertRaises(SystemExit):
+                gate.gate_of(["none"], False, to)
 
 
 if __name__ == "__main__":

@@ -166,6 +166,32 @@ class Why(unittest.TestCase):
             found = why.Reason(graph, graph.entries["file:///" + name])
             self.assertEqual([before.specifier for before, _ in found.way], ["file:///" + it for it in way], name)
             self.assertEqual(found.alone, ["file:///" + it for it in alone], name)
+        for name, number, alone in (("a", 0, []), ("a", 1, ["c"]), ("b", 0, ["d", "e"]), ("c", 0, []), ("d", 0, ["e"])):
+            found = why.Reason(graph, graph.entries["file:///" + name], number=number)
+            self.assertEqual(found.alone, ["file:///" + it for it in alone], (name, number))
+            told = why.Reason(graph, graph.entries["file:///" + name], ["why 0"], number, ["gone file:///" + it for it in alone])
+            self.assertEqual(told.alone, found.alone)
+
+    def test_what_is_followed(self):
+        """Edges that name a place, of types in a graph of code, and in a graph of types those of JavaScript and of calls."""
+        lines = ["root file:///a", "root file:///c", "file:///a module TypeScript 1", '  import-type 0-1 "b" - -> file:///b', '  address 2-3 "d" - -> file:///d', '  require 4-5 "e" - -> file:///e',
+                 "file:///b module TypeScript 1", "file:///c module JavaScript 1", '  import 0-1 "d" - -> file:///d', "file:///d module TypeScript 1", "file:///e module TypeScript 1", "entries 5", ""]
+        graph = report.graph_of("\n".join(lines).encode())
+        for kind, wanted in (("all", "abcde"), ("code", "acde"), ("types", "abc")):
+            self.assertEqual("".join(sorted(it[-1] for it in why.reached(graph, kind))), wanted)
+
+    def test_an_edge(self):
+        app = "examples/projects/demo/src/app.ts"
+        for words in (("--edge", "./pages"), ("--edge", "1"), ("--edge", "1:22"), ("--loader", "library", "--edge", "./pages")):
+            status, out, _ = ran("why", *words, app, DEMO)
+            self.assertEqual((status, out.splitlines()), (0, [
+                f"{DEMO}: a root", f'{DEMO}:4:23: import "./app" -> {app}', f'{app}:1:22: import "./pages" -> examples/projects/demo/src/pages/index.ts',
+                "without it 4 entries would be gone:", "  examples/projects/demo/node_modules/old-format/index.js", "  examples/projects/demo/src/pages/about.ts",
+                "  examples/projects/demo/src/pages/home.ts", "  examples/projects/demo/src/pages/index.ts"]))
+        value = json.loads(ran("why", "--json", "--edge", "./store", app, DEMO)[1])
+        self.assertEqual((value["entry"], value["edge"], value["alone"]), ("file:///src/app.ts", {"module": "file:///src/app.ts", "kind": "import", "specifier": "./store", "target": "file:///src/store.ts", "line": 2, "column": 23}, []))
+        status, _, errors = ran("why", "--edge", "./none", app, DEMO)
+        self.assertEqual((status, errors.splitlines()[-1]), (2, "joravelsu: ./none: no edge of src/app.ts"))
 
 
     def test_of_the_second_program(self):
@@ -232,7 +258,7 @@ class Mentions(Project):
 
     def test_what_is_not_read(self):
         self.assertEqual(self.lines("mentions", "slip.ts")[1][1:-1], ["slip.ts:1:3: isn't read: the tokens are no program of the grammar at byte 2"])
-        self.assertEqual(self.lines("mentions", "typed.ts")[1][1:-1], ["typed.ts:1:19: \"./t\" leads to a declaration: the code isn't in the graph"])
+        self.assertEqual(self.lines("mentions", "typed.ts")[1][1:-1], ["typed.ts:1:19: \"./t\" resolves to a declaration: the code isn't in the graph"])
         self.assertEqual(self.lines("mentions", "data.ts")[1][1:-1], ["data:text/javascript,eval(1):1:1: eval is declared nowhere in the text, and isn't allowed"])
         self.assertEqual(ran("mentions", "--kind", "types", "main.ts", cwd=self.room)[::2], (2, "joravelsu: a graph of types doesn't show what code mentions: --kind code does\n"))
 

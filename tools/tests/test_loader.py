@@ -12,6 +12,7 @@ TOOLS = os.path.dirname(os.path.dirname(os.path.abspath(__file__)))
 ROOT = os.path.dirname(TOOLS)
 sys.path.insert(0, TOOLS)
 from parts import builder, kit, library, outlines, packing, records, sites, words  # noqa: E402
+from tests.rooms import Room  # noqa: E402
 
 JORAVELSU = os.path.join(ROOT, "joravelsu")
 PROJECTS = os.path.join(ROOT, "examples", "projects")
@@ -45,22 +46,10 @@ def ran(*asked, at=ROOT, **variables):
     return done.returncode, done.stdout, done.stderr
 
 
-class Loader(unittest.TestCase):
+class Loader(Room):
     @classmethod
     def setUpClass(cls):
         cls.library = library.made()
-
-    def setUp(self):
-        room = tempfile.TemporaryDirectory()
-        self.addCleanup(room.cleanup)
-        self.room = os.path.realpath(room.name)
-
-    def put(self, files):
-        for path, text in files.items():
-            place = os.path.join(self.room, path)
-            os.makedirs(os.path.dirname(place), exist_ok=True)
-            with open(place, "w", encoding="utf-8") as file:
-                file.write(text if isinstance(text, str) else json.dumps(text))
 
     def same(self, verb, *asked, at=None):
         """What both say."""
@@ -85,7 +74,7 @@ class Same(Loader):
         for asked in (["check", "--json"], ["check"], ["graph", "--json"], ["graph", "src/mark.ts", "src/é.js", "https://h.test/x y"], ["why", "src/t.ts"], ["unread"]):
             self.same(*asked[:1], "--no-cache", *asked[1:], "src/main.ts")
         (broken,) = (entry for entry in json.loads(self.same("graph", "--json", "--no-cache", "src/broken.ts")[1])["modules"] if "message" in entry)
-        self.assertEqual([broken[key] for key in ("fault", "byte", "line", "column", "message")], ["Parse", 21, 1, 22, "this bracket has no partner"])
+        self.assertEqual([broken[key] for key in ("fault", "byte", "line", "column", "kind", "message")], ["Parse", 21, 1, 22, "Unbalanced", "this bracket has no partner"])
         for name in ("main.ts", "m.wasm", "bytes.js", "broken.ts", "é.js"):
             self.same("imports", f"src/{name}")
 
@@ -287,10 +276,10 @@ class Library(Loader):
 
     def test_where_reading_stops(self):
         from parts import program
-        rows = [("a.ts", "let a = ;", 8), ("a.ts", "/* é */ let a: = 1;", 15), ("a.js", "a b", 2), ("a.js", "let a", None), ("a.js", "'", None)]
+        rows = [("a.ts", "let a = ;", 8, "Syntax"), ("a.ts", "/* é */ let a: = 1;", 15, "Syntax"), ("a.js", "a b", 2, "Syntax"), ("a.js", "let a", None, None), ("a.js", "'", None, "UnterminatedString"), ("a.js", "(", None, "Unbalanced")]
         for made in (builder.Library(self.library), program.Program("test")):
-            for name, text, wanted in rows:
-                self.assertEqual(made.stop_of(f"file:///{name}", text), wanted, (made, text))
+            for name, text, wanted, kind in rows:
+                self.assertEqual((made.stop_of(f"file:///{name}", text), made.kind_of(f"file:///{name}", text)), (wanted, kind), (made, text))
 
     def test_specifiers_that_are_two_ways_written(self):
         made = builder.Library(self.library)

@@ -1,12 +1,16 @@
-"""Tests of tools/prove: which crates stand below one, and when a kept archive counts as that of the same sources."""
+"""Tests of tools/prove: which crates are below one, how a crate is proved, and when a cached archive is that of the same sources."""
 import importlib.machinery
 import importlib.util
 import os
 import re
+import sys
 import tempfile
 import unittest
 
 TOOL = os.path.join(os.path.dirname(os.path.dirname(os.path.abspath(__file__))), "prove")
+sys.path.insert(0, os.path.dirname(TOOL))
+from tests.rooms import Room  # noqa: E402
+
 LOADER = importlib.machinery.SourceFileLoader("prove", TOOL)
 SPEC = importlib.util.spec_from_loader("prove", LOADER)
 prove = importlib.util.module_from_spec(SPEC)
@@ -23,30 +27,28 @@ FILES = {
     "crates/high/src/lib.rt": "five\n",
 }
 
+# The toolchain, which says how it is called, each word quoted where it must be, and what it is given.
+TOOLCHAIN = """#!/bin/bash
+echo "$(printf ' %q' "$@" | cut -c2-): $(cat)"
+"""
 
-class Folder(unittest.TestCase):
+
+class Folder(Room):
     def setUp(self):
-        room = tempfile.TemporaryDirectory()
-        self.addCleanup(room.cleanup)
-        self.room, root, kept = room.name, prove.ROOT, prove.KEPT
-        prove.ROOT, prove.KEPT = room.name, os.path.join(room.name, "kept")
-        self.addCleanup(lambda: (setattr(prove, "ROOT", root), setattr(prove, "KEPT", kept)))
-        for path, text in FILES.items():
-            self.write(path, text)
-
-    def write(self, path, text):
-        place = os.path.join(self.room, path)
-        os.makedirs(os.path.dirname(place), exist_ok=True)
-        with open(place, "w", encoding="utf-8") as file:
-            file.write(text)
+        super().setUp()
+        root, kept = prove.ROOT, prove.KEPT
+        prove.ROOT = prove.kits.ROOT = self.room
+        prove.KEPT = os.path.join(self.room, "kept")
+        self.addCleanup(lambda: (setattr(prove, "ROOT", root), setattr(prove.kits, "ROOT", root), setattr(prove, "KEPT", kept)))
+        self.put(FILES)
 
     def sum(self):
-        return prove.sum_of("high", prove.listed_crates(), {"low"}, self.room)
+        return prove.sum_of("high", prove.kits.listed_crates(), {"low"}, self.room)
 
 
 class Prove(Folder):
     def test_crates_below(self):
-        self.assertEqual(set(prove.crates_below("high", prove.listed_crates())), {"low", "high"})
+        self.assertEqual(set(prove.crates_below("high", prove.kits.listed_crates())), {"low", "high"})
 
     def test_an_archive_is_that_of_its_sources(self):
         first = self.sum()
@@ -88,6 +90,15 @@ class Prove(Folder):
             prove.keep(os.path.join(self.room, "made.a"), place)
             os.utime(place, (number, number))
         self.assertEqual(sorted(os.listdir(prove.KEPT)), sorted(f"{number}.a" for number in range(3, prove.MOST_KEPT + 3)))
+
+    def test_a_program_is_run_and_a_library_built(self):
+        self.put({"crates/end/src/main.rt": "six\n", "crates/end/args": "a\nb c\n", "crates/end/stdin": "seven", "bin/rt": TOOLCHAIN})
+        os.chmod(f"{self.room}/bin/rt", 0o755)
+        old = os.environ["PATH"]
+        os.environ["PATH"] = f"{self.room}/bin:{old}"
+        self.addCleanup(os.environ.update, PATH=old)
+        self.assertEqual(prove.prove("end")[:2], (0, "run --jobs 1 -- a b\\ c: seven\n"))
+        self.assertEqual(prove.prove("low")[:2], (0, "lib --jobs 1: \n"))
 
     def test_nothing_is_built_over_what_is_not_proved(self):
         self.assertFalse(prove.are_built({"low"}))

@@ -2,8 +2,8 @@
 ghost use Rattle.std.specs.Prelude.{◌≡◌, ◌≤◌, ◌<◌, ℕ, true, false, ◌↔◌, length, map, IfOk, IfErr, OnOk, Err};
 ghost use Rattle.url.specs.Parts.{Parts};
 ghost use Rattle.graph_entry.specs.Specifier.{text_of};
-ghost use Rattle.graph_entry.specs.Resolution.{resolve, resolve_by};
-ghost use Rattle.graph_entry.specs.Referrer.{referred, starts_of};
+ghost use Rattle.graph_entry.specs.Resolution.{resolve};
+ghost use Rattle.graph_entry.specs.Referrer.{referrer_resolves, referred, starts_of};
 ghost use Rattle.graph_builder.specs.Reach.{answer_to};
 ghost use Rattle.graph_builder.specs.Graph.{texts, different, IsGraph, EachEdgeCuts};
 ghost use Rattle.graph_builder.specs.Builder.{graph_rules, starts, GoesOn, new_building, new_building_by, IsOrderly, IsAsking, IsAskedFor, EachAnswered, IsToldLog, HasHistory, IsNotYet, IsUnawaited, IsTooMany, IsComplete, IsCompleteBy, IsFairly, CameInTime};
@@ -12,7 +12,7 @@ use crate::analyzer::ParserModuleAnalyzer;
 use crate::ways::{DefaultWays, following_parts};
 use base::Items;
 use graph_builder::{BuildError, BuildOptions, CustomBuild, Following, Inner, Loader, ModuleGraph};
-use graph_entry::{DefaultResolver, ModuleAnalyzer, Resolver};
+use graph_entry::{DefaultResolver, KindResolver, ModuleAnalyzer};
 use std::alloc::{AllocError, AllocFailed, Global};
 use std::thread::Threads;
 use url::Url;
@@ -50,14 +50,15 @@ impl<L: Loader + Drop> GraphBuild<L> {
         Ok(GraphBuild { inner })
     }
 
-    /// The same builder with a resolver of the caller's. It starts again: the loader's lists count from now on.
-    pub fn with_resolver<R: Resolver + Drop>(
+    /// The same builder with a resolver of the caller's, which may hear the kinds of edges. It starts again: the loader's lists
+    /// count from now on.
+    pub fn with_resolver<R: KindResolver + Drop>(
         self,
         resolver: R,
     ) -> Result<CustomBuild<L, R, ParserModuleAnalyzer>, AllocError>
         ensures { IfOk result (λ b. b.inner ≡ new_building_by
             (record { following = self.inner.following; resolver = resolver; analyzer = record {} })
-            (resolve_by (R.resolving resolver)) self.inner.roots self.inner.imports self.inner.limit
+            (referrer_resolves (R.resolving_by_kind resolver)) self.inner.roots self.inner.imports self.inner.limit
             self.inner.loader (L.seen self.inner.loader)) }
     {
         let GraphBuild { inner } = self;

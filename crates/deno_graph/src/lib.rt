@@ -21,8 +21,8 @@ pub use graph_builder::{
 };
 pub use graph_entry::{
     AnalyzeFault, Attribute, DataError, DefaultResolver, Dependency, DependencyKind, Entry,
-    GraphKind, Headers, JsModule, JsonModule, KeptDiagnostic, LoadAnswer, MediaType, Module,
-    ModuleAnalyzer, ModuleError, ModuleInfo, ModuleKind, PackageKind, PackageRef, ParseDiagnostic,
-    ParseModuleOptions, ReferrerImports, ResolutionError, ResolveFault, Resolver, SyntaxErrorKind,
-    WasmModule, parse_module,
+    GraphKind, Headers, JsModule, JsonModule, KeptDiagnostic, KindResolver, LoadAnswer, MediaType,
+    Module, ModuleAnalyzer, ModuleError, ModuleInfo, ModuleKind, PackageKind, PackageRef,
+    ParseDiagnostic, ParseModuleOptions, ReferrerImports, ResolutionError, ResolveFault, Resolver,
+    SyntaxErrorKind, WasmModule, parse_module,
 };

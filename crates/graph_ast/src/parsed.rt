@@ -3,7 +3,7 @@ ghost use Rattle.std.specs.Prelude.{◌≡◌, IfOk};
 ghost use Rattle.deno_ast.specs.Parsed.{parsed_sites};
 ghost use Rattle.graph_entry.specs.Specifier.{text_of};
 ghost use Rattle.specifier_resolver.specs.Resolver.{resolving_or};
-ghost use Rattle.graph_entry.specs.Resolution.{resolve_by};
+ghost use Rattle.graph_entry.specs.Resolution.{resolve_by, of_any_kind};
 ghost use Rattle.graph_entry.specs.Analysed as spec;
 
 use deno_ast::ParsedSource;
@@ -32,7 +32,7 @@ pub fn parse_module_from_ast<R: Resolver>(
     options: ParseModuleFromAstOptions<'_, R>,
 ) -> Result<JsModule, AllocError>
     ensures { IfOk result (λ m. m ≡ spec.js_module
-        (resolve_by (resolving_or (λ r. R.resolving r.now) options.entry.maybe_resolver)) (text_of options.entry.specifier)
+        (of_any_kind (resolve_by (resolving_or (λ r. R.resolving r.now) options.entry.maybe_resolver))) (text_of options.entry.specifier)
         options.entry.parsed_source.now.media_type options.entry.parsed_source.now.text (parsed_sites options.entry.parsed_source.now)) }
 {
     let ParseModuleFromAstOptions {

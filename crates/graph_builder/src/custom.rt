@@ -2,8 +2,7 @@
 ghost use Rattle.std.specs.Prelude.{◌≡◌, ◌≤◌, ◌<◌, ℕ, true, false, ◌↔◌, length, map, IfOk, OnOk, Err};
 ghost use Rattle.url.specs.Parts.{Parts as UrlParts};
 ghost use Rattle.graph_entry.specs.Specifier.{text_of};
-ghost use Rattle.graph_entry.specs.Resolution.{resolve_by};
-ghost use Rattle.graph_entry.specs.Referrer.{referred_by, starts_by};
+ghost use Rattle.graph_entry.specs.Referrer.{referrer_resolves, referred_by, starts_by};
 ghost use Rattle.graph_entry.specs.Reading.{CutsSites};
 ghost use Rattle.graph_builder.specs.Own.{own_rules, own_resolves};
 ghost use Rattle.graph_builder.specs.Reach.{answer_to};
@@ -16,18 +15,18 @@ use crate::graph::ModuleGraph;
 use crate::inner::{Inner, Parts};
 use crate::loader::Loader;
 use crate::own::Own;
-use graph_entry::{ModuleAnalyzer, Resolver};
+use graph_entry::{KindResolver, ModuleAnalyzer};
 use std::alloc::AllocError;
 use std::thread::Threads;
 
 /// A graph under construction, whose specifiers a resolver of the caller's resolves, and whose sources an analyser of the
 /// caller's reads.
 #[derive(Drop)]
-pub struct CustomBuild<L: Loader + Drop, R: Resolver + Drop, M: ModuleAnalyzer + Drop> {
+pub struct CustomBuild<L: Loader + Drop, R: KindResolver + Drop, M: ModuleAnalyzer + Drop> {
     inner: Inner<L, Own<R, M>>,
 }
 
-impl<L: Loader + Drop, R: Resolver + Drop, M: ModuleAnalyzer + Drop> CustomBuild<L, R, M> {
+impl<L: Loader + Drop, R: KindResolver + Drop, M: ModuleAnalyzer + Drop> CustomBuild<L, R, M> {
     /// A builder of such parts.
     pub fn from_parts(
         parts: Parts<L, Following>,
@@ -36,7 +35,7 @@ impl<L: Loader + Drop, R: Resolver + Drop, M: ModuleAnalyzer + Drop> CustomBuild
     ) -> Result<CustomBuild<L, R, M>, AllocError>
         ensures { IfOk result (λ b. b.inner ≡ new_building_by
             (record { following = parts.following; resolver = resolver; analyzer = analyzer })
-            (resolve_by (R.resolving resolver)) parts.roots parts.imports parts.limit parts.loader (L.seen parts.loader)) }
+            (referrer_resolves (R.resolving_by_kind resolver)) parts.roots parts.imports parts.limit parts.loader (L.seen parts.loader)) }
     {
         let Parts {
             alloc,
@@ -56,14 +55,14 @@ impl<L: Loader + Drop, R: Resolver + Drop, M: ModuleAnalyzer + Drop> CustomBuild
         })
     }
 
-    /// The same builder with another resolver. It starts again: the loader's lists count from now on.
-    pub fn with_resolver<S: Resolver + Drop>(
+    /// The same builder with another resolver, which may hear the kinds of edges. It starts again: the loader's lists count from now on.
+    pub fn with_resolver<S: KindResolver + Drop>(
         self,
         resolver: S,
     ) -> Result<CustomBuild<L, S, M>, AllocError>
         ensures { IfOk result (λ b. b.inner ≡ new_building_by
             (record { following = self.inner.following.following; resolver = resolver; analyzer = self.inner.following.analyzer })
-            (resolve_by (S.resolving resolver)) self.inner.roots self.inner.imports self.inner.limit
+            (referrer_resolves (S.resolving_by_kind resolver)) self.inner.roots self.inner.imports self.inner.limit
             self.inner.loader (L.seen self.inner.loader)) }
     {
         let CustomBuild { inner } = self;
@@ -78,7 +77,7 @@ impl<L: Loader + Drop, R: Resolver + Drop, M: ModuleAnalyzer + Drop> CustomBuild
     ) -> Result<CustomBuild<L, R, N>, AllocError>
         ensures { IfOk result (λ b. b.inner ≡ new_building_by
             (record { following = self.inner.following.following; resolver = self.inner.following.resolver; analyzer = analyzer })
-            (resolve_by (R.resolving self.inner.following.resolver)) self.inner.roots self.inner.imports self.inner.limit
+            (referrer_resolves (R.resolving_by_kind self.inner.following.resolver)) self.inner.roots self.inner.imports self.inner.limit
             self.inner.loader (L.seen self.inner.loader)) }
     {
         let CustomBuild { inner } = self;
@@ -98,7 +97,7 @@ impl<L: Loader + Drop, R: Resolver + Drop, M: ModuleAnalyzer + Drop> CustomBuild
               resolver = self.inner.following.resolver;
               analyzer = self.inner.following.analyzer;
             })
-            (resolve_by (R.resolving self.inner.following.resolver)) self.inner.roots self.inner.imports self.inner.limit
+            (referrer_resolves (R.resolving_by_kind self.inner.following.resolver)) self.inner.roots self.inner.imports self.inner.limit
             self.inner.loader (L.seen self.inner.loader)) }
     {
         let CustomBuild { inner } = self;
@@ -111,17 +110,17 @@ impl<L: Loader + Drop, R: Resolver + Drop, M: ModuleAnalyzer + Drop> CustomBuild
     pub fn poll(&mut self) -> Result<ModuleGraph, BuildError>
         // The graph is that of the roots and the answers.
         ensures graph { IfOk result (λ g.
-            IsGraph (own_rules R.resolving M.reads self.old.inner.following) (starts self.old.inner) (answer_to self.new.inner.log) g.entries) }
+            IsGraph (own_rules R.resolving_by_kind M.reads self.old.inner.following) (starts self.old.inner) (answer_to self.new.inner.log) g.entries) }
         ensures cuts { CutsSites (M.reads self.old.inner.following.analyzer) → IfOk result (λ g. EachEdgeCuts g.entries) }
         ensures roots { IfOk result (λ g. g.roots ≡ self.old.inner.roots) }
-        ensures imports { IfOk result (λ g. g.imports ≡ map (referred_by (own_resolves R.resolving self.old.inner.following)) self.old.inner.imports) }
+        ensures imports { IfOk result (λ g. g.imports ≡ map (referred_by (own_resolves R.resolving_by_kind self.old.inner.following)) self.old.inner.imports) }
         // It starts at the roots and where the referrer imports lead.
         ensures starts { starts self.old.inner
-            ≡ starts_by (own_resolves R.resolving self.old.inner.following) self.old.inner.roots self.old.inner.imports }
+            ≡ starts_by (own_resolves R.resolving_by_kind self.old.inner.following) self.old.inner.roots self.old.inner.imports }
         // Each answer was awaited when it came; what was asked is what the graph needs, and is answered.
-        ensures orderly { OnOk result (IsOrderly (own_rules R.resolving M.reads self.old.inner.following) (starts self.old.inner) self.new.inner.log) }
+        ensures orderly { OnOk result (IsOrderly (own_rules R.resolving_by_kind M.reads self.old.inner.following) (starts self.old.inner) self.new.inner.log) }
         ensures asked { OnOk result
-            (IsAskedFor (own_rules R.resolving M.reads self.old.inner.following) (starts self.old.inner) self.new.inner.asked self.new.inner.log) }
+            (IsAskedFor (own_rules R.resolving_by_kind M.reads self.old.inner.following) (starts self.old.inner) self.new.inner.asked self.new.inner.log) }
         ensures answered { OnOk result (EachAnswered self.new.inner.asked self.new.inner.log) }
         ensures limit { IfOk result (λ g. length g.entries ≤ self.old.inner.limit) }
         // The different roots have the first numbers, in the order in which they first appear among the roots.
@@ -129,21 +128,21 @@ impl<L: Loader + Drop, R: Resolver + Drop, M: ModuleAnalyzer + Drop> CustomBuild
         ensures pending { OnOk result (self.new.inner.pending ≡ self.old.inner.pending) }
         // Why there is no graph.
         ensures not_yet { result ≡ Err BuildError.NotYet →
-            IsNotYet (own_rules R.resolving M.reads self.old.inner.following) self.old.inner self.new.inner }
+            IsNotYet (own_rules R.resolving_by_kind M.reads self.old.inner.following) self.old.inner self.new.inner }
         ensures unasked { (s : UrlParts) → result ≡ Err (BuildError.UnaskedAnswer s) →
-            IsUnawaited (own_rules R.resolving M.reads self.old.inner.following) 1 self.old.inner self.new.inner (text_of s) }
+            IsUnawaited (own_rules R.resolving_by_kind M.reads self.old.inner.following) 1 self.old.inner self.new.inner (text_of s) }
         ensures unasked_pending { (s : UrlParts) → result ≡ Err (BuildError.UnaskedAnswer s) →
             self.new.inner.pending ≡ self.old.inner.pending }
         ensures too_many { (seen : ℕ) → result ≡ Err (BuildError.TooManyModules seen) →
-            IsTooMany (own_rules R.resolving M.reads self.old.inner.following) (starts self.old.inner) self.new.inner.log self.old.inner.limit seen }
+            IsTooMany (own_rules R.resolving_by_kind M.reads self.old.inner.following) (starts self.old.inner) self.new.inner.log self.old.inner.limit seen }
         ensures finished { (result ≡ Err BuildError.Finished) ↔ (self.old.inner.finished ≡ true) }
         // And when there is one, unless memory runs out.
-        ensures complete { IsComplete (own_rules R.resolving M.reads self.old.inner.following) self.old.inner self.new.inner result }
+        ensures complete { IsComplete (own_rules R.resolving_by_kind M.reads self.old.inner.following) self.old.inner self.new.inner result }
         // No answer is unasked of a loader that answers open requests alone.
         ensures fair { IsFairly (L.seen self.old.inner.loader) self.old.inner result }
         // On every answer.
-        ensures in_time { CameInTime (own_rules R.resolving M.reads self.old.inner.following) (starts self.old.inner) self.new.inner.events result }
-        ensures asking { IsAsking (own_rules R.resolving M.reads self.old.inner.following) (starts self.old.inner) self.new.inner.asked self.new.inner.log }
+        ensures in_time { CameInTime (own_rules R.resolving_by_kind M.reads self.old.inner.following) (starts self.old.inner) self.new.inner.events result }
+        ensures asking { IsAsking (own_rules R.resolving_by_kind M.reads self.old.inner.following) (starts self.old.inner) self.new.inner.asked self.new.inner.log }
         ensures told { IsToldLog ((L.seen self.new.inner.loader).told) self.new.inner.log }
         ensures telling { (L.seen self.new.inner.loader).told ≡ (L.seen self.old.inner.loader).told }
         ensures stays_fair { (L.seen self.old.inner.loader).fair ≡ true →
@@ -171,7 +170,7 @@ impl<L: Loader + Drop, R: Resolver + Drop, M: ModuleAnalyzer + Drop> CustomBuild
     }
 }
 
-impl<L: Loader + Drop, R: Resolver + Drop + Sync, M: ModuleAnalyzer + Drop + Sync> CustomBuild<
+impl<L: Loader + Drop, R: KindResolver + Drop + Sync, M: ModuleAnalyzer + Drop + Sync> CustomBuild<
     L,
     R,
     M,
@@ -186,17 +185,17 @@ impl<L: Loader + Drop, R: Resolver + Drop + Sync, M: ModuleAnalyzer + Drop + Syn
         requires size { 0 < batch }
         // The graph is that of the roots and the answers.
         ensures graph { IfOk result (λ g.
-            IsGraph (own_rules R.resolving M.reads self.old.inner.following) (starts self.old.inner) (answer_to self.new.inner.log) g.entries) }
+            IsGraph (own_rules R.resolving_by_kind M.reads self.old.inner.following) (starts self.old.inner) (answer_to self.new.inner.log) g.entries) }
         ensures cuts { CutsSites (M.reads self.old.inner.following.analyzer) → IfOk result (λ g. EachEdgeCuts g.entries) }
         ensures roots { IfOk result (λ g. g.roots ≡ self.old.inner.roots) }
-        ensures imports { IfOk result (λ g. g.imports ≡ map (referred_by (own_resolves R.resolving self.old.inner.following)) self.old.inner.imports) }
+        ensures imports { IfOk result (λ g. g.imports ≡ map (referred_by (own_resolves R.resolving_by_kind self.old.inner.following)) self.old.inner.imports) }
         // It starts at the roots and where the referrer imports lead.
         ensures starts { starts self.old.inner
-            ≡ starts_by (own_resolves R.resolving self.old.inner.following) self.old.inner.roots self.old.inner.imports }
+            ≡ starts_by (own_resolves R.resolving_by_kind self.old.inner.following) self.old.inner.roots self.old.inner.imports }
         // Each answer was awaited when it came; what was asked is what the graph needs, and is answered.
-        ensures orderly { OnOk result (IsOrderly (own_rules R.resolving M.reads self.old.inner.following) (starts self.old.inner) self.new.inner.log) }
+        ensures orderly { OnOk result (IsOrderly (own_rules R.resolving_by_kind M.reads self.old.inner.following) (starts self.old.inner) self.new.inner.log) }
         ensures asked { OnOk result
-            (IsAskedFor (own_rules R.resolving M.reads self.old.inner.following) (starts self.old.inner) self.new.inner.asked self.new.inner.log) }
+            (IsAskedFor (own_rules R.resolving_by_kind M.reads self.old.inner.following) (starts self.old.inner) self.new.inner.asked self.new.inner.log) }
         ensures answered { OnOk result (EachAnswered self.new.inner.asked self.new.inner.log) }
         ensures limit { IfOk result (λ g. length g.entries ≤ self.old.inner.limit) }
         // The different roots have the first numbers, in the order in which they first appear among the roots.
@@ -204,21 +203,21 @@ impl<L: Loader + Drop, R: Resolver + Drop + Sync, M: ModuleAnalyzer + Drop + Syn
         ensures pending { OnOk result (self.new.inner.pending ≡ self.old.inner.pending) }
         // Why there is no graph.
         ensures not_yet { result ≡ Err BuildError.NotYet →
-            IsNotYet (own_rules R.resolving M.reads self.old.inner.following) self.old.inner self.new.inner }
+            IsNotYet (own_rules R.resolving_by_kind M.reads self.old.inner.following) self.old.inner self.new.inner }
         ensures unasked { (s : UrlParts) → result ≡ Err (BuildError.UnaskedAnswer s) →
-            IsUnawaited (own_rules R.resolving M.reads self.old.inner.following) batch self.old.inner self.new.inner (text_of s) }
+            IsUnawaited (own_rules R.resolving_by_kind M.reads self.old.inner.following) batch self.old.inner self.new.inner (text_of s) }
         ensures unasked_pending { (s : UrlParts) → result ≡ Err (BuildError.UnaskedAnswer s) →
             self.new.inner.pending ≡ self.old.inner.pending }
         ensures too_many { (seen : ℕ) → result ≡ Err (BuildError.TooManyModules seen) →
-            IsTooMany (own_rules R.resolving M.reads self.old.inner.following) (starts self.old.inner) self.new.inner.log self.old.inner.limit seen }
+            IsTooMany (own_rules R.resolving_by_kind M.reads self.old.inner.following) (starts self.old.inner) self.new.inner.log self.old.inner.limit seen }
         ensures finished { (result ≡ Err BuildError.Finished) ↔ (self.old.inner.finished ≡ true) }
         // And when there is one, unless memory runs out.
-        ensures complete { IsCompleteBy (own_rules R.resolving M.reads self.old.inner.following) batch self.old.inner self.new.inner result }
+        ensures complete { IsCompleteBy (own_rules R.resolving_by_kind M.reads self.old.inner.following) batch self.old.inner self.new.inner result }
         // No answer is unasked of a loader that answers open requests alone.
         ensures fair { IsFairly (L.seen self.old.inner.loader) self.old.inner result }
         // On every answer.
-        ensures in_time { CameInTime (own_rules R.resolving M.reads self.old.inner.following) (starts self.old.inner) self.new.inner.events result }
-        ensures asking { IsAsking (own_rules R.resolving M.reads self.old.inner.following) (starts self.old.inner) self.new.inner.asked self.new.inner.log }
+        ensures in_time { CameInTime (own_rules R.resolving_by_kind M.reads self.old.inner.following) (starts self.old.inner) self.new.inner.events result }
+        ensures asking { IsAsking (own_rules R.resolving_by_kind M.reads self.old.inner.following) (starts self.old.inner) self.new.inner.asked self.new.inner.log }
         ensures told { IsToldLog ((L.seen self.new.inner.loader).told) self.new.inner.log }
         ensures telling { (L.seen self.new.inner.loader).told ≡ (L.seen self.old.inner.loader).told }
         ensures stays_fair { (L.seen self.old.inner.loader).fair ≡ true →
@@ -232,7 +231,7 @@ impl<L: Loader + Drop, R: Resolver + Drop + Sync, M: ModuleAnalyzer + Drop + Syn
 }
 
 /// A builder's parts with its way of following edges alone, and what resolved and read beside them.
-fn taken_apart<L: Loader + Drop, R: Resolver + Drop, M: ModuleAnalyzer + Drop>(
+fn taken_apart<L: Loader + Drop, R: KindResolver + Drop, M: ModuleAnalyzer + Drop>(
     parts: Parts<L, Own<R, M>>,
 ) -> (Parts<L, Following>, Own<R, M>)
     ensures loader { result.0.loader ≡ parts.loader }

@@ -1,6 +1,6 @@
 //! A caller's own resolver and analyser.
-ghost use Rattle.graph_entry.specs.Resolution.{resolve_by};
-ghost use Rattle.graph_entry.specs.Ways.{ways_by};
+ghost use Rattle.graph_entry.specs.Referrer.{referrer_resolves};
+ghost use Rattle.graph_entry.specs.Ways.{kind_ways_by};
 ghost use Rattle.graph_entry.specs.Analysed.{AnalysedBy};
 ghost use Rattle.graph_entry.proofs.Theorems.{analysed_by_once};
 
@@ -8,7 +8,7 @@ use crate::following::Following;
 use crate::ways::Ways;
 use base::Items;
 use graph_entry::{
-    Dependency, Entry, LoadAnswer, ModuleAnalyzer, ReferrerImports, Resolver, analyse_by,
+    Dependency, Entry, KindResolver, LoadAnswer, ModuleAnalyzer, ReferrerImports, analyse_by,
     analyse_unasked_by, referred_by, starts_by,
 };
 use std::alloc::{AllocError, Global};
@@ -16,18 +16,18 @@ use url::Url;
 
 /// Which edges are followed, what resolves and what reads sources.
 #[derive(Drop)]
-pub struct Own<R: Resolver + Drop, M: ModuleAnalyzer + Drop> {
+pub struct Own<R: KindResolver + Drop, M: ModuleAnalyzer + Drop> {
     pub following: Following,
     pub resolver: R,
     pub analyzer: M,
 }
 
-impl<R: Resolver + Drop, M: ModuleAnalyzer + Drop> Ways for Own<R, M> {
-    ghost means = { λ own. AnalysedBy (ways_by (R.resolving own.resolver) (M.reads own.analyzer)) };
+impl<R: KindResolver + Drop, M: ModuleAnalyzer + Drop> Ways for Own<R, M> {
+    ghost means = { λ own. AnalysedBy (kind_ways_by (R.resolving_by_kind own.resolver) (M.reads own.analyzer)) };
 
     ghost follows = { λ own. own.following };
 
-    ghost resolves = { λ own. resolve_by (R.resolving own.resolver) };
+    ghost resolves = { λ own. referrer_resolves (R.resolving_by_kind own.resolver) };
 
     fn following(&self) -> Following {
         self.following
@@ -64,5 +64,5 @@ impl<R: Resolver + Drop, M: ModuleAnalyzer + Drop> Ways for Own<R, M> {
     }
 
     ghost once = { λ own.
-        analysed_by_once (ways_by (R.resolving own.resolver) (M.reads own.analyzer)) (M.once own.analyzer) };
+        analysed_by_once (kind_ways_by (R.resolving_by_kind own.resolver) (M.reads own.analyzer)) (M.once own.analyzer) };
 }

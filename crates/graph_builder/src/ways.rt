@@ -19,7 +19,7 @@ pub trait Ways {
     ghost means: { Self → Means };
     /// Which edges are followed.
     ghost follows: { Self → Followed };
-    /// What a text leads to from a specifier.
+    /// What a text that a referrer imports leads to from it.
     ghost resolves: { Self → Resolves };
 
     fn following(&self) -> Following

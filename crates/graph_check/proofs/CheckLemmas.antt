@@ -8,10 +8,15 @@ use Rattle.graph_entry.specs.declared.entry.Dependency.{Dependency}
 use Rattle.graph_entry.specs.declared.entry.Entry.{Entry}
 use Rattle.graph_policy.specs.declared.rule.Policy.{Policy}
 use Rattle.graph_policy.specs.declared.rule.Breach.{Breach}
-use Rattle.graph_policy.specs.Breach.{breach_of}
+use Rattle.graph_policy.specs.Breach.{or_lacking, breach_of}
 use Rattle.graph_builder.specs.Graph.{GraphData}
 use Rattle.graph_check.specs.SeenGraph.{Thing, edge, outside_things, entry_things, seen_of}
 use Rattle.graph_check.specs.Check.{Look, kept, broken, looked, look_from, look_on}
+
+-- where nothing is required, the rules on modules alone count
+pub nothing_lacking : (breach : Option Breach) → or_lacking breach None ≡ breach
+nothing_lacking None = refl
+nothing_lacking (Some breach) = refl
 
 -- what comes behind one thing
 looked_on : (policy : Policy) (graph : GraphData) (n : ℕ) (t : Thing) (found : Option Breach) (rest : Look)

@@ -10,17 +10,17 @@ use Rattle.graph_check.specs.declared.checking.Thing.TheVariants as found
 use Rattle.graph_check.specs.declared.checking.Verdict.{Verdict}
 use Rattle.graph_check.specs.declared.checking.Verdict.TheVariants.{Kept, Broken}
 
--- so many things were looked at, and none is forbidden; or this one is, for this cause, behind so many that aren't
+-- so many things were looked at, and none breaks a rule; or this one does, for this cause, after so many that don't
 pub data Look : Type 0 where
   kept : ℕ → Look
   broken : ℕ → Breach → Thing → Look
 
--- this one, where it is forbidden, or else what the rest comes to
+-- this one, where it breaks a rule, or else what the rest comes to
 abbrev pub looked : ℕ → Thing → Option Breach → Look → Look
 looked n t (Some breach) rest = broken n breach t
 looked n t None rest = rest
 
--- the first thing of a list that is forbidden, where the list's first has place n
+-- the first thing of a list that breaks a rule, where the list's first has place n
 abbrev pub look_from : Policy → GraphData → ℕ → List Thing → Look
 look_from policy graph n [] = kept n
 look_from policy graph n (t ∷ ts) = looked n t (breach_of policy (seen_of graph t)) (look_from policy graph (n + 1) ts)

@@ -13,7 +13,7 @@ use Rattle.graph_entry.specs.declared.entry.Entry.TheVariants as entry
 use Rattle.graph_entry.specs.Specifier.{text_of}
 use Rattle.graph_builder.specs.Graph.{GraphData, entry_of}
 use Rattle.graph_report.specs.Report.{kind_word, edges_of}
-use Rattle.graph_policy.specs.Seen.{ModuleTexts, EdgeTexts}
+use Rattle.graph_policy.specs.Seen.{ModuleTexts, EdgeTexts, EntryTexts}
 
 -- ---- the things of a graph
 
@@ -71,6 +71,18 @@ edge_seen graph from d = record {
   dynamic = is_dynamic d.kind;
 }
 
-abbrev pub seen_of : GraphData → Thing → (ModuleTexts ⊎ EdgeTexts)
-seen_of graph (held url there) = inl (module_seen url (Some there))
+-- the edges of an entry that is a module
+abbrev pub edges_of_module : Entry → Option (List Dependency)
+edges_of_module (entry.Module m) = Some (edges_of (entry.Module m))
+edges_of_module _ = None
+
+-- an entry: its specifier, and if it is a module its edges, as they are seen themselves
+abbrev pub entry_seen : GraphData → Parts → Entry → EntryTexts
+entry_seen graph url there = record {
+  own = module_seen url (Some there);
+  edges = option_map (map (edge_seen graph (module_in graph url))) (edges_of_module there);
+}
+
+abbrev pub seen_of : GraphData → Thing → (EntryTexts ⊎ EdgeTexts)
+seen_of graph (held url there) = inl (entry_seen graph url there)
 seen_of graph (edge url d) = inr (edge_seen graph (module_in graph url) d)

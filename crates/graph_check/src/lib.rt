@@ -1,7 +1,7 @@
 //! Whether rules allow a graph.
 //!
-//! - `check`: the first entry or edge, in the report's order, that the rules forbid, with its place and why; or how many
-//!   entries and edges were looked at, where none is forbidden (`look_from`, `specs/Check.antt`; `things_in`, `seen_of`,
+//! - `check`: the first entry or edge, in the report's order, that breaks a rule, with its place and why; or how many
+//!   entries and edges were looked at, where none breaks one (`look_from`, `specs/Check.antt`; `things_in`, `seen_of`,
 //!   `specs/SeenGraph.antt`).
 //!
 //! Running out of memory is the one answer without a cause.

@@ -1,5 +1,5 @@
 //! What the rules see of a graph.
-ghost use Rattle.std.specs.Prelude.{◌≡◌, Some, option_map};
+ghost use Rattle.std.specs.Prelude.{◌≡◌, Some, map, option_map, IfOk};
 ghost use Rattle.std.specs.Option.{option_copied};
 ghost use Rattle.std.specs.Result.{result_ok};
 ghost use Rattle.graph_entry.specs.Specifier.{text_of};
@@ -10,6 +10,7 @@ use graph_builder::ModuleGraph;
 use graph_entry::{Dependency, DependencyKind, Entry};
 use graph_policy::{SeenEdge, SeenModule};
 use graph_report::kind_name;
+use std::alloc::{AllocError, Global};
 use url::Url;
 
 /// A specifier, with what the graph has there.
@@ -57,6 +58,24 @@ pub fn edge_seen<'a>(
         type_only: edge.type_only,
         dynamic: is_dynamic(edge.kind),
     }
+}
+
+/// The edges of a module.
+pub fn edges_seen<'a>(
+    alloc: Global,
+    graph: &'a ModuleGraph,
+    from: &'a Url,
+    edges: &'a [Dependency],
+) -> Result<Vec<SeenEdge<'a>>, AllocError>
+    ensures { IfOk result (λ seen. map edge_texts seen.items
+        ≡ map (spec.edge_seen graph.now (spec.module_in graph.now from.now)) edges.now) }
+{
+    let own = module_in(graph, from);
+    let mut seen = Vec::new(alloc);
+    for dependency in edges {
+        seen.push(edge_seen(graph, own, dependency))?;
+    }
+    Ok(seen)
 }
 
 fn target_of<'a>(graph: &'a ModuleGraph, edge: &'a Dependency) -> Option<SeenModule<'a>>

@@ -1,5 +1,5 @@
 -- One answer makes one entry of a specifier, where a source is read as one thing.
-use Rattle.std.proofs.Common.{◌≡◌, ◌∙◌, sym, ap, subst, List, ℕ}
+use Rattle.std.proofs.Common.{◌≡◌, ◌∙◌, sym, ap, List, ℕ}
 use Rattle.std.specs.Prelude.{Bool, true, false, codes, Option, Some, None, MatchOption, Result, Ok, Err}
 use Rattle.graph_entry.specs.declared.answer.LoadAnswer.{LoadAnswer}
 use Rattle.graph_entry.specs.declared.answer.LoadAnswer.TheVariants as answer
@@ -13,10 +13,9 @@ use Rattle.media_type.specs.ContentTypes.{with_content_type}
 use Rattle.data_specifier.specs.declared.data_module.DataModule.{DataModule}
 use Rattle.data_specifier.specs.declared.error.DataError.{DataError}
 use Rattle.data_specifier.specs.Data.{data_of}
-use Rattle.package_ref.specs.declared.reference.PackageRef.{PackageRef}
-use Rattle.package_ref.specs.Reference.{IsReference}
 use Rattle.package_ref.proofs.Theorems.{one_reference}
 use Rattle.graph_entry.specs.declared.entry.Entry.TheVariants as entry
+use Rattle.es_site.specs.declared.site.DependencyKind.TheVariants as dependency_kind
 use Rattle.lexical_path.specs.Specifiers.{begins}
 use Rattle.source_text.specs.module_text.ModuleText.{without_mark}
 use Rattle.graph_entry.specs.Reading.{IsFunction}
@@ -66,7 +65,7 @@ module _ (ways : Ways) (reads_once : IsFunction ways.reads) where
   by_kind-once s media bytes (Some module_kind.Json) made other makes makes_too =
       OfJson-once bytes made other makes makes_too
   by_kind-once s media bytes (Some module_kind.Wasm) made other makes makes_too =
-      OfWasm-once ways.resolves s bytes made other makes makes_too
+      OfWasm-once (ways.resolves dependency_kind.Wasm) s bytes made other makes makes_too
 
   -- content of a media type
   OfContent-once : (s : List ℕ) (media : MediaType) (bytes : List ℕ) (made other : Entry)

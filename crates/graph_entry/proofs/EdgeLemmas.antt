@@ -3,6 +3,8 @@ use Rattle.std.proofs.Common.{◌≡◌, sym, subst, refl, List, ℕ}
 use Rattle.std.specs.Prelude.{Bool, true, false, codes, All, Option, Some, None, MatchOption, Result, Ok, Err, slice_index_or}
 use Rattle.std.proofs.lemmas.List.Elements.{All-map}
 use Rattle.es_site.specs.declared.site.Site.{Site}
+use Rattle.es_site.specs.declared.site.DependencyKind.{DependencyKind}
+use Rattle.es_site.specs.declared.site.DependencyKind.TheVariants as dependency_kind
 use Rattle.source_reading.specs.Cuts.{Cuts}
 use Rattle.graph_entry.specs.declared.answer.LoadAnswer.{LoadAnswer}
 use Rattle.graph_entry.specs.declared.answer.LoadAnswer.TheVariants as answer
@@ -20,7 +22,7 @@ use Rattle.data_specifier.specs.declared.error.DataError.{DataError}
 use Rattle.data_specifier.specs.Data.{data_of}
 use Rattle.lexical_path.specs.Specifiers.{begins}
 use Rattle.source_text.specs.module_text.ModuleText.{without_mark}
-use Rattle.graph_entry.specs.Resolution.{Resolves, KeepsReason}
+use Rattle.graph_entry.specs.Resolution.{KindResolves, KeepsReason}
 use Rattle.graph_entry.specs.Reading.{Sites}
 use Rattle.graph_entry.specs.Ways.{Ways}
 use Rattle.graph_entry.specs.Analysed.{AnalysedBy, OfContent, OfData, OfPackage, with_package, no_package, OfUnasked, media_type_at, OfKind, OfBytes, OfText, source_entry, with_text, no_text, dependency_of, unsupported}
@@ -34,7 +36,7 @@ HoldsOfSites P ways s text =
 
 module _ (P Q : List ℕ → Dependency → Type 0) (ways : Ways) (s : List ℕ)
     (sites : (text : List ℕ) → HoldsOfSites P ways s text)
-    (imports : (bytes : List ℕ) → HoldsOfImports Q ways.resolves s bytes)
+    (imports : (bytes : List ℕ) → HoldsOfImports Q (ways.resolves dependency_kind.Wasm) s bytes)
   where
     -- ---- level by level
 
@@ -59,7 +61,7 @@ module _ (P Q : List ℕ → Dependency → Type 0) (ways : Ways) (s : List ℕ)
     by_kind-edges media bytes (Some module_kind.Source) made makes = OfBytes-edges media bytes made makes
     by_kind-edges media bytes (Some module_kind.Json) made makes = OfJson-edges P Q bytes made makes
     by_kind-edges media bytes (Some module_kind.Wasm) made makes =
-        OfWasm-edges P Q ways.resolves s bytes made (imports bytes) makes
+        OfWasm-edges P Q (ways.resolves dependency_kind.Wasm) s bytes made (imports bytes) makes
 
     -- content of a media type
     OfContent-edges : (media : MediaType) (bytes : List ℕ) (made : Entry) → OfContent ways s media bytes made
@@ -96,13 +98,13 @@ module _ (P Q : List ℕ → Dependency → Type 0) (ways : Ways) (s : List ℕ)
 -- ---- two facts of each edge
 
 -- a site that cuts its literal has an edge that does
-pub All-CutsFrom : (by : Resolves) (s text : List ℕ) (sites : List Site)
+pub All-CutsFrom : (by : KindResolves) (s text : List ℕ) (sites : List Site)
     → All (λ site. Cuts text site.range site.value) sites
     → All (λ site. CutsFrom text (dependency_of by s site)) sites
 All-CutsFrom by s text sites cuts k site within = ((slice_index_or sites k site).range, refl, cuts k site within)
 
 -- the edge of a site never keeps that room ran out
-pub All-KeepsReasonOf : (by : Resolves) → ((s text : List ℕ) → KeepsReason (by s text)) → (s text : List ℕ)
+pub All-KeepsReasonOf : (by : KindResolves) → ((kind : DependencyKind) (s text : List ℕ) → KeepsReason (by kind s text)) → (s text : List ℕ)
     (sites : List Site)
     → All (λ site. KeepsReasonOf text (dependency_of by s site)) sites
-All-KeepsReasonOf by kept s text sites k site within = kept s (slice_index_or sites k site).value
+All-KeepsReasonOf by kept s text sites k site within = kept (slice_index_or sites k site).kind s (slice_index_or sites k site).value

@@ -1,8 +1,9 @@
 -- No entry's fault is that memory ran out.
 use Rattle.std.proofs.Common.{◌≡◌, ◌≢◌, sym, subst, refl, List, ℕ}
-use Rattle.std.specs.Prelude.{Bool, true, false, ◌==◌, codes, take, position, Option, Some, None, MatchOption, Result, Ok, Err}
+use Rattle.std.specs.Prelude.{Bool, true, false, ◌==◌, codes, position, Option, Some, None, MatchOption, Result, Ok, Err}
 use Rattle.wasm_dep_analyzer.specs.declared.error.ParseError.{ParseError}
 use Rattle.wasm_dep_analyzer.specs.declared.error.ParseError.TheVariants as wasm
+use Rattle.es_site.specs.declared.site.DependencyKind.TheVariants as dependency_kind
 use Rattle.graph_entry.specs.declared.answer.LoadAnswer.{LoadAnswer}
 use Rattle.graph_entry.specs.declared.answer.LoadAnswer.TheVariants as answer
 use Rattle.graph_entry.specs.declared.entry.Entry.{Entry}
@@ -25,7 +26,7 @@ use Rattle.graph_entry.specs.Wasm.{OfWasm, with_imports, faulty}
 use Rattle.graph_entry.specs.Resolution.{Resolves}
 use Rattle.graph_entry.specs.Reading.{Sites}
 use Rattle.graph_entry.specs.Ways.{Ways}
-use Rattle.graph_entry.specs.Analysed.{AnalysedBy, OfContent, OfData, OfPackage, with_package, no_package, OfUnasked, media_type_at, OfKind, OfBytes, OfText, source_entry, with_text, no_text, unsupported}
+use Rattle.graph_entry.specs.Analysed.{AnalysedBy, OfData, with_package, no_package, OfUnasked, media_type_at, OfKind, OfBytes, OfText, source_entry, with_text, no_text, unsupported}
 
 module _ (ways : Ways) (s : List ℕ) (media : MediaType) where
   OfText-fault : (text : List ℕ) (made : Entry) → OfText ways s media text made → KeepsFault made
@@ -58,7 +59,7 @@ by_kind-fault ways s media bytes None made is = subst KeepsFault (sym is) tt
 by_kind-fault ways s media bytes (Some module_kind.Source) made makes =
     OfBytes-fault ways s media bytes made makes
 by_kind-fault ways s media bytes (Some module_kind.Json) made makes = OfJson-fault bytes made makes
-by_kind-fault ways s media bytes (Some module_kind.Wasm) made makes = OfWasm-fault ways.resolves s bytes made makes
+by_kind-fault ways s media bytes (Some module_kind.Wasm) made makes = OfWasm-fault (ways.resolves dependency_kind.Wasm) s bytes made makes
 
 -- ---- where no loader is asked
 

@@ -1,6 +1,7 @@
 -- What content makes, as a module or the reason that there is none.
 use Rattle.std.proofs.Common.{◌≡◌, sym, subst, List, ℕ}
 use Rattle.std.specs.Prelude.{Option, Some, None, MatchOption, Ok, Err}
+use Rattle.es_site.specs.declared.site.DependencyKind.TheVariants as dependency_kind
 use Rattle.media_type.specs.declared.media_type.MediaType.{MediaType}
 use Rattle.media_type.specs.declared.media_type.ModuleKind.{ModuleKind}
 use Rattle.media_type.specs.declared.media_type.ModuleKind.TheVariants as module_kind
@@ -10,11 +11,11 @@ use Rattle.graph_entry.specs.declared.entry.Entry.TheVariants as entry
 use Rattle.graph_entry.specs.declared.entry.ModuleError.{ModuleError}
 use Rattle.graph_entry.specs.declared.entry.ModuleError.TheVariants as error
 use Rattle.graph_entry.specs.Json.{OfJson, with_json, no_json}
-use Rattle.graph_entry.specs.Resolution.{Resolves}
+use Rattle.graph_entry.specs.Resolution.{Resolves, KindResolves}
 use Rattle.graph_entry.specs.Reading.{Sites}
 use Rattle.graph_entry.specs.Ways.{Ways}
 use Rattle.graph_entry.specs.Wasm.{OfWasm, with_imports, faulty}
-use Rattle.graph_entry.specs.Analysed.{OfContent, OfKind, OfBytes, OfText, source_entry, with_text, no_text, unsupported, IsParsed}
+use Rattle.graph_entry.specs.Analysed.{OfContent, OfKind, OfBytes, source_entry, with_text, no_text, unsupported, IsParsed}
 
 -- the entry is a module or an error
 abbrev pub IsOfContent : Entry → Type 0
@@ -24,7 +25,7 @@ IsOfContent (entry.Redirect target) = ⊥
 IsOfContent (entry.Package held) = ⊥
 IsOfContent entry.External = ⊥
 
-source-parsed : (by : Resolves) (s : List ℕ) (media : MediaType) (text : List ℕ) (found : Sites)
+source-parsed : (by : KindResolves) (s : List ℕ) (media : MediaType) (text : List ℕ) (found : Sites)
     → IsOfContent (source_entry by s media text found)
 source-parsed by s media text (Ok found) = tt
 source-parsed by s media text (Err d) = tt
@@ -50,7 +51,7 @@ by_kind-parsed : (ways : Ways) (s : List ℕ) (media : MediaType) (bytes : List 
 by_kind-parsed ways s media bytes None made is = subst IsOfContent (sym is) tt
 by_kind-parsed ways s media bytes (Some module_kind.Source) made makes = bytes-parsed ways s media bytes made makes
 by_kind-parsed ways s media bytes (Some module_kind.Json) made makes = json-parsed bytes made makes
-by_kind-parsed ways s media bytes (Some module_kind.Wasm) made makes = wasm-parsed ways.resolves s bytes made makes
+by_kind-parsed ways s media bytes (Some module_kind.Wasm) made makes = wasm-parsed (ways.resolves dependency_kind.Wasm) s bytes made makes
 
 -- content makes modules and errors alone
 pub content-parsed : (ways : Ways) (s : List ℕ) (media : MediaType) (bytes : List ℕ) (made : Entry)

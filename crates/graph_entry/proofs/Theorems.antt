@@ -2,12 +2,13 @@
 use Rattle.std.proofs.Common.{◌≡◌, List, ℕ, subst, sym}
 use Rattle.std.specs.Prelude.{All, Option}
 use Rattle.es_site.specs.declared.site.Site.{Site}
+use Rattle.es_site.specs.declared.site.DependencyKind.TheVariants as dependency_kind
 use Rattle.source_reading.specs.Cuts.{Cuts}
 use Rattle.source_reading.proofs.Theorems.{sites_cut}
 use Rattle.graph_entry.specs.declared.answer.LoadAnswer.{LoadAnswer}
 use Rattle.graph_entry.specs.declared.entry.Entry.{Entry}
 use Rattle.graph_entry.specs.Entry.{CutsFrom, CutsName, EachEdge, EdgesCut, KeepsReasonOf, KeepsFault}
-use Rattle.graph_entry.specs.Resolution.{resolve}
+use Rattle.graph_entry.specs.Resolution.{resolve, of_any_kind}
 use Rattle.graph_entry.specs.Reading.{IsFunction, CutsSites, ReadsSource, with_sites, no_program}
 use Rattle.graph_entry.specs.ReadingLaws.{reads_once}
 use Rattle.graph_entry.specs.Ways.{Ways, default_ways}
@@ -42,7 +43,7 @@ pub analysed_by_cuts : (ways : Ways) → CutsSites ways.reads → (s : List ℕ)
 analysed_by_cuts ways cuts s =
     Analysed-edges CutsFrom CutsName ways s
     (λ text media sites read. All-CutsFrom ways.resolves s text sites (cuts s media text sites read))
-    (imports-CutsName ways.resolves s)
+    (imports-CutsName (ways.resolves dependency_kind.Wasm) s)
 
 pub analysed_cuts : (s : List ℕ) (a : Option LoadAnswer) (made : Entry) → Analysed s a made → EdgesCut made
 analysed_cuts = analysed_by_cuts default_ways reads_cuts
@@ -52,7 +53,7 @@ pub analysed_reasons : (s : List ℕ) (a : Option LoadAnswer) (made : Entry) →
     → EachEdge KeepsReasonOf KeepsReasonOf made
 analysed_reasons s =
     Analysed-edges KeepsReasonOf KeepsReasonOf default_ways s
-    (λ text media sites read. All-KeepsReasonOf resolve resolve-kept s text sites)
+    (λ text media sites read. All-KeepsReasonOf (of_any_kind resolve) (λ kind. resolve-kept) s text sites)
     (imports-KeepsReasonOf resolve resolve-kept s)
 
 -- an entry's fault is never that memory ran out

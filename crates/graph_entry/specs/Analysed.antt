@@ -3,6 +3,7 @@ use Rattle.std.specs.Prelude.{◌≡◌, ℕ, Bool, true, false, List, map, code
 use Rattle.url.specs.Parts.{Parts}
 use Rattle.url.specs.Parser.{Parsed, parse_url}
 use Rattle.es_site.specs.declared.site.Site.{Site}
+use Rattle.es_site.specs.declared.site.DependencyKind.TheVariants as dependency_kind
 use Rattle.graph_entry.specs.declared.answer.LoadAnswer.{LoadAnswer}
 use Rattle.graph_entry.specs.declared.answer.LoadAnswer.TheVariants as answer
 use Rattle.graph_entry.specs.declared.entry.Dependency.{Dependency}
@@ -30,7 +31,7 @@ use Rattle.graph_entry.specs.Headers.{HeaderList, header_value}
 use Rattle.source_text.specs.module_text.ModuleText.{without_mark}
 use Rattle.graph_entry.specs.Json.{no_utf8, OfJson}
 use Rattle.graph_entry.specs.Wasm.{OfWasm}
-use Rattle.graph_entry.specs.Resolution.{Resolves}
+use Rattle.graph_entry.specs.Resolution.{KindResolves}
 use Rattle.graph_entry.specs.Reading.{Sites}
 use Rattle.graph_entry.specs.Ways.{Ways, default_ways}
 
@@ -44,29 +45,29 @@ abbrev pub unsupported : MediaType → Entry
 unsupported media_type = entry.Error (UnsupportedMediaType media_type)
 
 -- the edge of a site in the module at this specifier
-abbrev pub dependency_of : Resolves → List ℕ → Site → Dependency
+abbrev pub dependency_of : KindResolves → List ℕ → Site → Dependency
 dependency_of resolves s site = record {
   kind = site.kind;
   type_only = site.type_only;
   range = Some site.range;
   text = site.value;
   attribute = site.attribute;
-  resolution = resolves s site.value;
+  resolution = resolves site.kind s site.value;
 }
 
 -- the module at this specifier: its text, and one edge for each of its sites, in order
-abbrev pub js_module : Resolves → List ℕ → MediaType → List ℕ → List Site → JsModule
+abbrev pub js_module : KindResolves → List ℕ → MediaType → List ℕ → List Site → JsModule
 js_module resolves s media_type text sites = record {
   media_type = media_type;
   text = text;
   dependencies = map (dependency_of resolves s) sites;
 }
 
-abbrev pub module_of : Resolves → List ℕ → MediaType → List ℕ → List Site → Entry
+abbrev pub module_of : KindResolves → List ℕ → MediaType → List ℕ → List Site → Entry
 module_of resolves s media_type text sites = entry.Module (Js (js_module resolves s media_type text sites))
 
 -- the entry of a source: the module of its sites, or what is wrong with it
-abbrev pub source_entry : Resolves → List ℕ → MediaType → List ℕ → Sites → Entry
+abbrev pub source_entry : KindResolves → List ℕ → MediaType → List ℕ → Sites → Entry
 source_entry resolves s media_type text (Ok sites) = module_of resolves s media_type text sites
 source_entry resolves s media_type text (Err d) = entry.Error (Parse d)
 
@@ -87,7 +88,7 @@ pub data OfBytes (ways : Ways) (s : List ℕ) (media_type : MediaType) (bytes : 
 abbrev pub OfKind : Ways → List ℕ → MediaType → ModuleKind → List ℕ → Entry → Type 0
 OfKind ways s media_type module_kind.Source bytes made = OfBytes ways s media_type bytes made
 OfKind ways s media_type module_kind.Json bytes made = OfJson bytes made
-OfKind ways s media_type module_kind.Wasm bytes made = OfWasm ways.resolves s bytes made
+OfKind ways s media_type module_kind.Wasm bytes made = OfWasm (ways.resolves dependency_kind.Wasm) s bytes made
 
 -- what content makes: of some media types there are no modules
 abbrev pub OfContent : Ways → List ℕ → MediaType → List ℕ → Entry → Type 0

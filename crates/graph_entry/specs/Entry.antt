@@ -1,5 +1,5 @@
 -- Entries of a graph: their targets, their edges' places and their errors.
-use Rattle.std.specs.Prelude.{◌≡◌, ℕ, ◌≤◌, List, [], length, slice_range, All, codes, Option, Some, option_map}
+use Rattle.std.specs.Prelude.{◌≡◌, ℕ, ◌≤◌, List, length, slice_range, All, codes, Option, Some, option_map}
 use Rattle.std.specs.Result.{result_ok}
 use Rattle.base.specs.declared.range.Range.{Range}
 use Rattle.source_reading.specs.Cuts.{Cuts}

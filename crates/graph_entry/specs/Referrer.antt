@@ -8,7 +8,11 @@ use Rattle.graph_entry.specs.declared.entry.Dependency.{Dependency}
 use Rattle.graph_entry.specs.declared.referrer.ReferrerImports.{ReferrerImports}
 use Rattle.graph_entry.specs.Specifier.{text_of}
 use Rattle.graph_entry.specs.Entry.{edge_target}
-use Rattle.graph_entry.specs.Resolution.{Resolves, resolve}
+use Rattle.graph_entry.specs.Resolution.{Resolves, KindResolving, resolve_by, resolve}
+
+-- where a resolver leads what referrers import
+abbrev pub referrer_resolves : KindResolving → Resolves
+referrer_resolves resolving = resolve_by (resolving Referrer)
 
 -- the edge of a text that a referrer imports: it stands in no module, and its attribute isn't told
 abbrev pub referrer_edge : Resolves → List ℕ → List ℕ → Dependency

@@ -8,6 +8,7 @@ use Rattle.file_url.specs.declared.errors.SpecifierError.TheVariants as specifie
 use Rattle.file_url.specs.Imports as imports
 use Rattle.specifier_resolver.specs.declared.resolver.ResolveFault.TheVariants as fault
 use Rattle.specifier_resolver.specs.Resolver.{Resolving, default_resolving}
+use Rattle.es_site.specs.declared.site.DependencyKind.{DependencyKind}
 use Rattle.graph_entry.specs.declared.resolution.ResolutionError.{ResolutionError}
 use Rattle.graph_entry.specs.declared.resolution.ResolutionError.TheVariants.{ImportPrefixMissing, InvalidUrl, InvalidDowngrade, InvalidLocalImport, InvalidTypeAssertion, InvalidSourcePhase, Refused}
 
@@ -73,6 +74,21 @@ resolve_by resolving referrer text = resolved_by resolving (parse_url None refer
 -- by the URL Standard
 abbrev pub resolve : Resolves
 resolve = resolve_by default_resolving
+
+-- what a resolver means that hears the kind of an edge
+abbrev pub KindResolving : Type 0
+KindResolving = DependencyKind → List ℕ → Parts → Resolving
+
+-- what a text leads to for an edge of a kind
+abbrev pub KindResolves : Type 0
+KindResolves = DependencyKind → Resolves
+
+abbrev pub resolve_by_kind : KindResolving → KindResolves
+resolve_by_kind resolving kind = resolve_by (resolving kind)
+
+-- the same for each kind
+abbrev pub of_any_kind : Resolves → KindResolves
+of_any_kind resolves kind = resolves
 
 -- the reason that an edge keeps, if it keeps one, is not that room ran out
 abbrev pub KeepsReason : Resolved → Type 0

@@ -11,7 +11,11 @@ use Rattle.graph_entry.specs.declared.entry.Module.TheVariants.{Wasm}
 use Rattle.graph_entry.specs.declared.entry.Entry.{Entry}
 use Rattle.graph_entry.specs.declared.entry.Entry.TheVariants as entry
 use Rattle.graph_entry.specs.declared.entry.ModuleError.TheVariants.{WasmParse}
-use Rattle.graph_entry.specs.Resolution.{Resolves}
+use Rattle.graph_entry.specs.Resolution.{Resolves, KindResolving, resolve_by}
+
+-- where a resolver leads the imports of a module of WebAssembly
+abbrev pub wasm_resolves : KindResolving → Resolves
+wasm_resolves resolving = resolve_by (resolving dependency_kind.Wasm)
 
 -- the edge of an import of the module at this specifier: its text is the name of the module that is imported from
 abbrev pub wasm_dependency : Resolves → List ℕ → Imported → Dependency

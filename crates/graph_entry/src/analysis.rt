@@ -5,9 +5,9 @@ ghost use Rattle.graph_entry.specs.Specifier.{text_of};
 ghost use Rattle.media_type.specs.Specifiers.{by_header};
 ghost use Rattle.parse_diagnostic.specs.Diagnosis.{told};
 ghost use Rattle.graph_entry.specs.Headers.{header_value};
-ghost use Rattle.graph_entry.specs.Resolution.{resolve_by};
+ghost use Rattle.graph_entry.specs.Resolution.{resolve_by_kind};
 ghost use Rattle.graph_entry.specs.Steps.{IsReadAgain, read_of};
-ghost use Rattle.graph_entry.specs.Ways.{ways_by};
+ghost use Rattle.graph_entry.specs.Ways.{kind_ways_by};
 ghost use Rattle.graph_entry.specs.Analysed as spec;
 ghost use Rattle.graph_entry.specs.Analysed.{AnalysedBy, OfContent, OfBytes, OfText};
 
@@ -16,6 +16,7 @@ use crate::answer::LoadAnswer;
 use crate::entry::{Dependency, Entry, JsModule, Module, ModuleError};
 use crate::headers::Headers;
 use crate::json::{analyse_json, no_text};
+use crate::kind_resolver::KindResolver;
 use crate::resolution::{ReadAgain, read_again, resolve_from};
 use crate::wasm::analyse_wasm;
 use base::{Items, SharedBytes};
@@ -23,20 +24,19 @@ use es_site::Site;
 use media_type::{MediaType, ModuleKind};
 use parse_diagnostic::{KeptDiagnostic, ParseDiagnostic};
 use source_text::SourceText;
-use specifier_resolver::Resolver;
 use std::alloc::{AllocError, Global};
 use url::Url;
 
 /// The entry of the specifier, where a loader gave this answer for it, by a resolver and an analyser.
 #[tactic(auto, unfolding(crate::specs::Analysed::AnalysedBy))]
-pub fn analyse_by<R: Resolver, M: ModuleAnalyzer>(
+pub fn analyse_by<R: KindResolver, M: ModuleAnalyzer>(
     alloc: Global,
     resolver: &R,
     analyzer: &M,
     specifier: &Url,
     answer: LoadAnswer,
 ) -> Result<Entry, AllocError>
-    ensures { IfOk result (λ made. AnalysedBy (ways_by (R.resolving resolver.now) (M.reads analyzer.now))
+    ensures { IfOk result (λ made. AnalysedBy (kind_ways_by (R.resolving_by_kind resolver.now) (M.reads analyzer.now))
         (text_of specifier.now) (Some answer) made) }
 {
     match answer {
@@ -51,7 +51,7 @@ pub fn analyse_by<R: Resolver, M: ModuleAnalyzer>(
 }
 
 /// The entry of content, whatever the specifier's scheme.
-pub fn analyse_content<R: Resolver, M: ModuleAnalyzer>(
+pub fn analyse_content<R: KindResolver, M: ModuleAnalyzer>(
     alloc: Global,
     resolver: &R,
     analyzer: &M,
@@ -59,7 +59,7 @@ pub fn analyse_content<R: Resolver, M: ModuleAnalyzer>(
     headers: &Headers,
     bytes: SharedBytes,
 ) -> Result<Entry, AllocError>
-    ensures { IfOk result (OfContent (ways_by (R.resolving resolver.now) (M.reads analyzer.now))
+    ensures { IfOk result (OfContent (kind_ways_by (R.resolving_by_kind resolver.now) (M.reads analyzer.now))
         (text_of specifier.now) (spec.media_type_at (text_of specifier.now) headers.now) bytes) }
 {
     let base = read_again(alloc, specifier)?;
@@ -86,7 +86,7 @@ fn media_type_by(
 }
 
 /// The entry of content of this media type. The base is the specifier, read again.
-pub fn analyse_as<R: Resolver, M: ModuleAnalyzer>(
+pub fn analyse_as<R: KindResolver, M: ModuleAnalyzer>(
     alloc: Global,
     resolver: &R,
     analyzer: &M,
@@ -96,7 +96,7 @@ pub fn analyse_as<R: Resolver, M: ModuleAnalyzer>(
     bytes: SharedBytes,
 ) -> Result<Entry, AllocError>
     requires again { read_of base.now ≡ parse_url None (text_of specifier.now) }
-    ensures { IfOk result (OfContent (ways_by (R.resolving resolver.now) (M.reads analyzer.now))
+    ensures { IfOk result (OfContent (kind_ways_by (R.resolving_by_kind resolver.now) (M.reads analyzer.now))
         (text_of specifier.now) media_type bytes) }
 {
     match media_type.kind() {
@@ -139,7 +139,7 @@ struct Source<'a> {
     media_type: MediaType,
 }
 
-fn analyse_bytes<R: Resolver, M: ModuleAnalyzer>(
+fn analyse_bytes<R: KindResolver, M: ModuleAnalyzer>(
     alloc: Global,
     resolver: &R,
     analyzer: &M,
@@ -147,7 +147,7 @@ fn analyse_bytes<R: Resolver, M: ModuleAnalyzer>(
     bytes: SharedBytes,
 ) -> Result<Entry, AllocError>
     requires { IsReadAgain source }
-    ensures { IfOk result (OfBytes (ways_by (R.resolving resolver.now) (M.reads analyzer.now))
+    ensures { IfOk result (OfBytes (kind_ways_by (R.resolving_by_kind resolver.now) (M.reads analyzer.now))
         (text_of source.entry.specifier.now) source.entry.media_type bytes) }
 {
     match SourceText::from_utf8(bytes) {
@@ -156,7 +156,7 @@ fn analyse_bytes<R: Resolver, M: ModuleAnalyzer>(
     }
 }
 
-fn analyse_text<R: Resolver, M: ModuleAnalyzer>(
+fn analyse_text<R: KindResolver, M: ModuleAnalyzer>(
     alloc: Global,
     resolver: &R,
     analyzer: &M,
@@ -164,7 +164,7 @@ fn analyse_text<R: Resolver, M: ModuleAnalyzer>(
     text: SourceText,
 ) -> Result<Entry, AllocError>
     requires { IsReadAgain source }
-    ensures { IfOk result (OfText (ways_by (R.resolving resolver.now) (M.reads analyzer.now))
+    ensures { IfOk result (OfText (kind_ways_by (R.resolving_by_kind resolver.now) (M.reads analyzer.now))
         (text_of source.entry.specifier.now) source.entry.media_type text) }
 {
     match analyzer.analyze(alloc, source.specifier, &text, source.media_type) {
@@ -183,7 +183,7 @@ fn unparsed(diagnostic: ParseDiagnostic) -> Entry
     Entry::Error(ModuleError::Parse(KeptDiagnostic::new(diagnostic)))
 }
 
-fn module_of<R: Resolver>(
+fn module_of<R: KindResolver>(
     alloc: Global,
     resolver: &R,
     source: Source<'_>,
@@ -191,7 +191,7 @@ fn module_of<R: Resolver>(
     sites: Items<Site>,
 ) -> Result<JsModule, AllocError>
     requires { IsReadAgain source }
-    ensures { IfOk result (λ made. made ≡ spec.js_module (resolve_by (R.resolving resolver.now))
+    ensures { IfOk result (λ made. made ≡ spec.js_module (resolve_by_kind (R.resolving_by_kind resolver.now))
         (text_of source.entry.specifier.now) source.entry.media_type text sites) }
 {
     let dependencies = dependencies_of(alloc, resolver, source, sites)?;
@@ -203,7 +203,7 @@ fn module_of<R: Resolver>(
 }
 
 /// The module of the sites of a source at a specifier.
-pub fn module_at<R: Resolver>(
+pub fn module_at<R: KindResolver>(
     alloc: Global,
     resolver: &R,
     specifier: &Url,
@@ -211,7 +211,7 @@ pub fn module_at<R: Resolver>(
     text: SourceText,
     sites: Items<Site>,
 ) -> Result<JsModule, AllocError>
-    ensures { IfOk result (λ made. made ≡ spec.js_module (resolve_by (R.resolving resolver.now))
+    ensures { IfOk result (λ made. made ≡ spec.js_module (resolve_by_kind (R.resolving_by_kind resolver.now))
         (text_of specifier.now) media_type text sites) }
 {
     let base = read_again(alloc, specifier)?;
@@ -223,14 +223,14 @@ pub fn module_at<R: Resolver>(
     module_of(alloc, resolver, source, text, sites)
 }
 
-fn dependencies_of<R: Resolver>(
+fn dependencies_of<R: KindResolver>(
     alloc: Global,
     resolver: &R,
     source: Source<'_>,
     sites: Items<Site>,
 ) -> Result<Items<Dependency>, AllocError>
     requires { IsReadAgain source }
-    ensures { IfOk result (λ edges. edges ≡ map (spec.dependency_of (resolve_by (R.resolving resolver.now))
+    ensures { IfOk result (λ edges. edges ≡ map (spec.dependency_of (resolve_by_kind (R.resolving_by_kind resolver.now))
         (text_of source.entry.specifier.now)) sites) }
 {
     let mut edges = Items::from_vec(Vec::with_capacity(alloc, sites.len())?);
@@ -240,17 +240,17 @@ fn dependencies_of<R: Resolver>(
     Ok(edges)
 }
 
-fn dependency_of<R: Resolver>(
+fn dependency_of<R: KindResolver>(
     alloc: Global,
     resolver: &R,
     source: Source<'_>,
     site: Site,
 ) -> Result<Dependency, AllocError>
     requires { IsReadAgain source }
-    ensures { IfOk result (λ edge. edge ≡ spec.dependency_of (resolve_by (R.resolving resolver.now))
+    ensures { IfOk result (λ edge. edge ≡ spec.dependency_of (resolve_by_kind (R.resolving_by_kind resolver.now))
         (text_of source.entry.specifier.now) site) }
 {
-    let resolution = resolve_from(alloc, resolver, source.base, site.value.as_str())?;
+    let resolution = resolve_from(alloc, resolver, site.kind, source.base, site.value.as_str())?;
     Ok(Dependency {
         kind: site.kind,
         type_only: site.type_only,

@@ -6,6 +6,7 @@
 //! - `analyse_unasked_by(resolver, analyzer, specifier)`: the same where no loader is asked for the specifier: what a
 //!   `data:` URL holds, or the package of an `npm:` or `jsr:` specifier.
 //! - `resolve(text, referrer)`: what a specifier in a source resolves to (`resolve`, `specs/Resolution.antt`).
+//! - `KindResolver`: a resolver that hears the kind of the edge too. Each `Resolver` is one (`resolve_by_kind`, the same file).
 //! - `referred(places)`, `starts_of(roots, places)`: the edges of what places outside a graph import, and where reach
 //!   starts by them (`specs/Referrer.antt`).
 //! - `is_loadable(specifier)`: whether a loader is asked for it (`loadable`, `specs/Specifier.antt`).
@@ -25,6 +26,7 @@ mod entry;
 mod headers;
 mod json;
 mod kind;
+mod kind_resolver;
 mod parse;
 mod referrer;
 mod resolution;
@@ -38,9 +40,10 @@ pub use crate::answer::LoadAnswer;
 pub use crate::entry::{Dependency, Entry, JsModule, JsonModule, Module, ModuleError, WasmModule};
 pub use crate::headers::Headers;
 pub use crate::kind::GraphKind;
+pub use crate::kind_resolver::KindResolver;
 pub use crate::parse::{ParseModuleOptions, parse_module};
 pub use crate::referrer::{ReferrerImports, referred, referred_by, starts_by, starts_of};
-pub use crate::resolution::{ResolutionError, Resolved, resolve, resolve_by};
+pub use crate::resolution::{ResolutionError, Resolved, resolve, resolve_by, resolve_by_kind};
 pub use crate::specifier::is_loadable;
 pub use crate::unasked::analyse_unasked_by;
 pub use data_specifier::DataError;

@@ -2,14 +2,15 @@
 ghost use Rattle.std.specs.Prelude.{◌≡◌, map, IfOk, OnOk};
 ghost use Rattle.std.specs.List.{flat_map};
 ghost use Rattle.graph_entry.specs.Specifier.{text_of};
-ghost use Rattle.graph_entry.specs.Resolution.{resolve_by};
 ghost use Rattle.graph_entry.specs.Referrer as spec;
+ghost use Rattle.graph_entry.specs.Referrer.{referrer_resolves};
 
 use crate::entry::Dependency;
-use crate::resolution::resolve_by;
+use crate::kind_resolver::KindResolver;
+use crate::resolution::resolve_by_kind;
 use base::{Items, Text};
 use es_site::{Attribute, DependencyKind};
-use specifier_resolver::{DefaultResolver, Resolver};
+use specifier_resolver::DefaultResolver;
 use std::alloc::{AllocError, Global};
 use url::Url;
 
@@ -53,13 +54,13 @@ pub fn referred(
 }
 
 /// The same by a resolver of the caller's.
-pub fn referred_by<R: Resolver>(
+pub fn referred_by<R: KindResolver>(
     alloc: Global,
     resolver: &R,
     places: &[ReferrerImports],
 ) -> Result<Items<(Url, Items<Dependency>)>, AllocError>
     ensures { IfOk result (λ made. made
-        ≡ map (spec.referred_by (resolve_by (R.resolving resolver.now))) places.now) }
+        ≡ map (spec.referred_by (referrer_resolves (R.resolving_by_kind resolver.now))) places.now) }
 {
     let mut made = Items::new(alloc);
     for place in places {
@@ -68,12 +69,12 @@ pub fn referred_by<R: Resolver>(
     Ok(made)
 }
 
-fn one_referred<R: Resolver>(
+fn one_referred<R: KindResolver>(
     alloc: Global,
     resolver: &R,
     place: &ReferrerImports,
 ) -> Result<(Url, Items<Dependency>), AllocError>
-    ensures { IfOk result (λ made. made ≡ spec.referred_by (resolve_by (R.resolving resolver.now)) place.now) }
+    ensures { IfOk result (λ made. made ≡ spec.referred_by (referrer_resolves (R.resolving_by_kind resolver.now)) place.now) }
 {
     let edges = edges_of(alloc, resolver, &place.referrer, place.imports.as_slice())?;
     Ok((place.referrer.clone()?, edges))
@@ -91,14 +92,14 @@ pub fn starts_of(
 }
 
 /// The same by a resolver of the caller's.
-pub fn starts_by<R: Resolver>(
+pub fn starts_by<R: KindResolver>(
     alloc: Global,
     resolver: &R,
     roots: &[Url],
     places: &[ReferrerImports],
 ) -> Result<Items<Url>, AllocError>
     ensures { IfOk result (λ starts. map text_of starts
-        ≡ spec.starts_by (resolve_by (R.resolving resolver.now)) roots.now places.now) }
+        ≡ spec.starts_by (referrer_resolves (R.resolving_by_kind resolver.now)) roots.now places.now) }
 {
     let mut starts = copies(alloc, roots)?;
     add_targets_of_all(alloc, resolver, &mut starts, places)?;
@@ -115,13 +116,13 @@ fn copies(alloc: Global, urls: &[Url]) -> Result<Items<Url>, AllocError>
     Ok(copy)
 }
 
-fn add_targets_of_all<R: Resolver>(
+fn add_targets_of_all<R: KindResolver>(
     alloc: Global,
     resolver: &R,
     starts: &mut Items<Url>,
     places: &[ReferrerImports],
 ) -> Result<(), AllocError>
-    ensures { OnOk result (spec.Adds starts.old starts.new (flat_map (spec.led_from (resolve_by (R.resolving resolver.now))) places.now)) }
+    ensures { OnOk result (spec.Adds starts.old starts.new (flat_map (spec.led_from (referrer_resolves (R.resolving_by_kind resolver.now))) places.now)) }
 {
     for place in places {
         let edges = edges_of(alloc, resolver, &place.referrer, place.imports.as_slice())?;
@@ -149,14 +150,14 @@ fn add_target(starts: &mut Items<Url>, edge: &Dependency) -> Result<(), AllocErr
 }
 
 // The edges of the texts that a referrer imports, in their order.
-fn edges_of<R: Resolver>(
+fn edges_of<R: KindResolver>(
     alloc: Global,
     resolver: &R,
     referrer: &Url,
     texts: &[Text],
 ) -> Result<Items<Dependency>, AllocError>
     ensures { IfOk result (λ edges. edges
-        ≡ map (spec.referrer_edge (resolve_by (R.resolving resolver.now)) (text_of referrer.now)) texts.now) }
+        ≡ map (spec.referrer_edge (referrer_resolves (R.resolving_by_kind resolver.now)) (text_of referrer.now)) texts.now) }
 {
     let mut edges = Items::new(alloc);
     for text in texts {
@@ -165,21 +166,22 @@ fn edges_of<R: Resolver>(
     Ok(edges)
 }
 
-fn edge_of<R: Resolver>(
+fn edge_of<R: KindResolver>(
     alloc: Global,
     resolver: &R,
     referrer: &Url,
     text: &Text,
 ) -> Result<Dependency, AllocError>
     ensures { IfOk result (λ edge. edge
-        ≡ spec.referrer_edge (resolve_by (R.resolving resolver.now)) (text_of referrer.now) text.now) }
+        ≡ spec.referrer_edge (referrer_resolves (R.resolving_by_kind resolver.now)) (text_of referrer.now) text.now) }
 {
+    let kind = DependencyKind::Referrer;
     Ok(Dependency {
-        kind: DependencyKind::Referrer,
+        kind,
         type_only: false,
         range: None,
         text: text.copy()?,
         attribute: Attribute::Unknown,
-        resolution: resolve_by(alloc, resolver, text.as_str(), referrer)?,
+        resolution: resolve_by_kind(alloc, resolver, kind, text.as_str(), referrer)?,
     })
 }

@@ -6,7 +6,9 @@ ghost use Rattle.graph_entry.specs.Specifier.{text_of};
 ghost use Rattle.graph_entry.specs.Resolution as spec;
 ghost use Rattle.graph_entry.specs.Steps.{read_of};
 
+use crate::kind_resolver::KindResolver;
 use base::Text;
+use es_site::DependencyKind;
 use file_url::canonical_url::reads_as_itself;
 use file_url::{SpecifierError, resolve_import_from};
 use specifier_resolver::{DefaultResolver, ResolveFault, Resolver};
@@ -119,8 +121,21 @@ pub fn resolve_by<R: Resolver>(
 ) -> Result<Resolved, AllocError>
     ensures { IfOk result (λ r. r ≡ spec.resolve_by (R.resolving resolver.now) (text_of referrer.now) text.now) }
 {
+    resolve_by_kind(alloc, resolver, DependencyKind::Import, text, referrer)
+}
+
+/// The same for an edge of a kind, where a resolver of the caller's hears the kind.
+pub fn resolve_by_kind<R: KindResolver>(
+    alloc: Global,
+    resolver: &R,
+    kind: DependencyKind,
+    text: &str,
+    referrer: &Url,
+) -> Result<Resolved, AllocError>
+    ensures { IfOk result (λ r. r ≡ spec.resolve_by_kind (R.resolving_by_kind resolver.now) kind (text_of referrer.now) text.now) }
+{
     let base = read_again(alloc, referrer)?;
-    resolve_from(alloc, resolver, &base, text)
+    resolve_from(alloc, resolver, kind, &base, text)
 }
 
 /// What the specifier's own text is read as. It is read only where that isn't known to be the specifier itself.
@@ -137,16 +152,17 @@ pub fn read_again<'a>(alloc: Global, specifier: &'a Url) -> Result<ReadAgain<'a>
     }
 }
 
-/// What a text leads to from a referrer whose own text was read.
-pub fn resolve_from<R: Resolver>(
+/// What a text leads to for an edge of a kind, from a referrer whose own text was read.
+pub fn resolve_from<R: KindResolver>(
     alloc: Global,
     resolver: &R,
+    kind: DependencyKind,
     base: &ReadAgain<'_>,
     text: &str,
 ) -> Result<Resolved, AllocError>
-    ensures { IfOk result (λ r. r ≡ spec.resolved_by (R.resolving resolver.now) (read_of base.now) text.now) }
+    ensures { IfOk result (λ r. r ≡ spec.resolved_by (R.resolving_by_kind resolver.now kind) (read_of base.now) text.now) }
 {
-    let resolved = target_by(alloc, resolver, base, text)?;
+    let resolved = target_by(alloc, resolver, kind, base, text)?;
     Ok(allowed_from(base, resolved))
 }
 
@@ -174,30 +190,32 @@ fn allowed(referrer: &Url, target: Url) -> Resolved
 }
 
 // The target of a text, whatever the referrer may lead to.
-fn target_by<R: Resolver>(
+fn target_by<R: KindResolver>(
     alloc: Global,
     resolver: &R,
+    kind: DependencyKind,
     base: &ReadAgain<'_>,
     text: &str,
 ) -> Result<Resolved, AllocError>
-    ensures { IfOk result (λ r. r ≡ spec.target_by (R.resolving resolver.now) (read_of base.now) text.now) }
+    ensures { IfOk result (λ r. r ≡ spec.target_by (R.resolving_by_kind resolver.now kind) (read_of base.now) text.now) }
 {
     match base.url() {
-        Ok(referrer) => target_from(alloc, resolver, referrer, text),
+        Ok(referrer) => target_from(alloc, resolver, kind, referrer, text),
         Err(error) => target_from_none(alloc, error, text),
     }
 }
 
 // The target that the resolver gives.
-fn target_from<R: Resolver>(
+fn target_from<R: KindResolver>(
     alloc: Global,
     resolver: &R,
+    kind: DependencyKind,
     referrer: &Url,
     text: &str,
 ) -> Result<Resolved, AllocError>
-    ensures { IfOk result (λ r. r ≡ spec.kept_resolving (R.resolving resolver.now text.now referrer.now)) }
+    ensures { IfOk result (λ r. r ≡ spec.kept_resolving (R.resolving_by_kind resolver.now kind text.now referrer.now)) }
 {
-    match resolver.resolve(alloc, text, referrer) {
+    match resolver.resolve_by_kind(alloc, kind, text, referrer) {
         Ok(url) => Ok(Ok(url)),
         Err(ResolveFault::Specifier(SpecifierError::ImportPrefixMissing { specifier })) => {
             Ok(Err(ResolutionError::ImportPrefixMissing { specifier }))

@@ -2,32 +2,32 @@
 ghost use Rattle.std.specs.Prelude.{◌≡◌, None, Ok, IfOk};
 ghost use Rattle.data_specifier.specs.Data.{data_of};
 ghost use Rattle.graph_entry.specs.Specifier.{text_of};
-ghost use Rattle.graph_entry.specs.Ways.{ways_by};
+ghost use Rattle.graph_entry.specs.Ways.{kind_ways_by};
 ghost use Rattle.graph_entry.specs.Analysed.{AnalysedBy, OfData, OfPackage};
 
 use crate::analysis::analyse_as;
 use crate::analyzer::ModuleAnalyzer;
 use crate::entry::{Entry, ModuleError};
+use crate::kind_resolver::KindResolver;
 use crate::resolution::read_again;
 use base::SharedBytes;
 use data_specifier::{DataError, DataModule, parse_data_text};
 use lexical_path::begins;
 use media_type::MediaType;
 use package_ref::{PackageError, parse_package_ref};
-use specifier_resolver::Resolver;
 use std::alloc::{AllocError, Global};
 use url::Url;
 
 /// The entry of a specifier that no loader is asked for, by a resolver and an analyser: what a `data:` URL holds, or else the
 /// package that the specifier names.
 #[tactic(auto, unfolding(crate::specs::Analysed::AnalysedBy, crate::specs::Specifier::text_of))]
-pub fn analyse_unasked_by<R: Resolver, M: ModuleAnalyzer>(
+pub fn analyse_unasked_by<R: KindResolver, M: ModuleAnalyzer>(
     alloc: Global,
     resolver: &R,
     analyzer: &M,
     specifier: &Url,
 ) -> Result<Entry, AllocError>
-    ensures { IfOk result (λ made. AnalysedBy (ways_by (R.resolving resolver.now) (M.reads analyzer.now))
+    ensures { IfOk result (λ made. AnalysedBy (kind_ways_by (R.resolving_by_kind resolver.now) (M.reads analyzer.now))
         (text_of specifier.now) None made) }
 {
     if begins(specifier.as_str(), "data:") {
@@ -38,13 +38,13 @@ pub fn analyse_unasked_by<R: Resolver, M: ModuleAnalyzer>(
 }
 
 #[tactic(auto, unfolding(crate::specs::Specifier::text_of))]
-fn analyse_data<R: Resolver, M: ModuleAnalyzer>(
+fn analyse_data<R: KindResolver, M: ModuleAnalyzer>(
     alloc: Global,
     resolver: &R,
     analyzer: &M,
     specifier: &Url,
 ) -> Result<Entry, AllocError>
-    ensures { IfOk result (OfData (ways_by (R.resolving resolver.now) (M.reads analyzer.now))
+    ensures { IfOk result (OfData (kind_ways_by (R.resolving_by_kind resolver.now) (M.reads analyzer.now))
         (text_of specifier.now) (data_of (text_of specifier.now))) }
 {
     match parse_data_text(alloc, specifier.as_str()) {
@@ -55,14 +55,14 @@ fn analyse_data<R: Resolver, M: ModuleAnalyzer>(
 }
 
 // The media type that is held stands for a content type.
-fn analyse_held<R: Resolver, M: ModuleAnalyzer>(
+fn analyse_held<R: KindResolver, M: ModuleAnalyzer>(
     alloc: Global,
     resolver: &R,
     analyzer: &M,
     specifier: &Url,
     held: DataModule,
 ) -> Result<Entry, AllocError>
-    ensures { IfOk result (OfData (ways_by (R.resolving resolver.now) (M.reads analyzer.now))
+    ensures { IfOk result (OfData (kind_ways_by (R.resolving_by_kind resolver.now) (M.reads analyzer.now))
         (text_of specifier.now) (Ok held)) }
 {
     let base = read_again(alloc, specifier)?;

@@ -1,15 +1,17 @@
 -- What the definitions mean.
 use Rattle.std.proofs.Common.{◌≡◌, ◌∙◌, sym, ap, refl, ℕ, ◌+◌, Bool, true, false, cond, ◌⊎◌, List, [], ◌∷◌, ◌++◌, length, take, drop}
-use Rattle.std.specs.Prelude.{◌==◌, Option, Some, None}
-use Rattle.std.specs.List.{AllByRecursion}
+use Rattle.std.specs.Prelude.{◌==◌, ◌&&◌, not, Option, Some, None}
+use Rattle.std.specs.List.{AllByRecursion, list_any}
 use Rattle.std.proofs.lemmas.Bool.{false≢true, and_parts, and_from, eq-eqb, eqb-true}
 use Rattle.std.proofs.lemmas.List.{take-append-drop, drop_at}
+use Rattle.graph_policy.specs.declared.rule.RequiredRule.{RequiredRule}
 use Rattle.graph_policy.specs.declared.rule.Policy.{Policy}
 use Rattle.graph_policy.specs.declared.rule.Breach.{Breach}
 use Rattle.graph_policy.specs.declared.rule.Finding.{Finding}
-use Rattle.graph_policy.specs.Seen.{ModuleTexts, EdgeTexts}
+use Rattle.graph_policy.specs.Seen.{ModuleTexts, EdgeTexts, EntryTexts}
 use Rattle.graph_policy.specs.Pattern.{after_byte, some_end, matches, first_text, rest_texts, filled}
-use Rattle.graph_policy.specs.Breach.{breach_of, found_or, first_breach}
+use Rattle.graph_policy.specs.Rules.{fits, edge_fits}
+use Rattle.graph_policy.specs.Breach.{first_place, lacks, or_lacking, module_breach, entry_breach, breach_of, found_or, first_breach}
 use Rattle.graph_policy.proofs.PatternLemmas.{some_end_at, some_end_from, empty_nil}
 
 matched_part : (c : ℕ) (pattern text : List ℕ) (star : Bool)
@@ -61,8 +63,8 @@ none_of_both : (n : ℕ) (breach : Option Breach) (rest : Option Finding) → fo
 none_of_both n None rest e = (refl, e)
 none_of_both n (Some breach) rest e = cc e
 
--- where none is found, each of the list is kept
-pub none_forbidden : (policy : Policy) (n : ℕ) (seen : List (ModuleTexts ⊎ EdgeTexts))
+-- where none is found, each of the list keeps the rules
+pub none_forbidden : (policy : Policy) (n : ℕ) (seen : List (EntryTexts ⊎ EdgeTexts))
     → first_breach policy n seen ≡ None
     → AllByRecursion (λ s. breach_of policy s ≡ None) seen
 none_forbidden policy n [] e = tt
@@ -70,10 +72,80 @@ none_forbidden policy n (s ∷ seen) e =
     let both = none_of_both n (breach_of policy s) (first_breach policy (n + 1) seen) e in
     (both.0, none_forbidden policy (n + 1) seen both.1)
 
--- where each of the list is kept, none is found
-pub each_kept : (policy : Policy) (n : ℕ) (seen : List (ModuleTexts ⊎ EdgeTexts))
+-- where each of the list keeps them, none is found
+pub each_kept : (policy : Policy) (n : ℕ) (seen : List (EntryTexts ⊎ EdgeTexts))
     → AllByRecursion (λ s. breach_of policy s ≡ None) seen
     → first_breach policy n seen ≡ None
 each_kept policy n [] kept = refl
 each_kept policy n (s ∷ seen) kept =
     ap (λ b. found_or n b (first_breach policy (n + 1) seen)) kept.0 ∙ each_kept policy (n + 1) seen kept.1
+
+-- ---- what rules require
+
+-- each of these rules that fits the module fits one of its edges
+abbrev pub HasEach : List RequiredRule → EntryTexts → List EdgeTexts → Type 0
+HasEach rules e edges =
+    AllByRecursion (λ r. fits r.edge.from e.own ≡ true → list_any (λ d. edge_fits r.edge d) edges ≡ true) rules
+
+none_there : (b : Bool) (n : ℕ) (rest : Option ℕ) → cond b (Some n) rest ≡ None → (b ≡ false) × (rest ≡ None)
+none_there true n rest is = cc
+none_there false n rest is = (refl, is)
+
+none_lacks : (rules : List RequiredRule) (n : ℕ) (e : EntryTexts) → first_place (λ r. lacks r e) n rules ≡ None
+    → AllByRecursion (λ r. lacks r e ≡ false) rules
+none_lacks [] n e is = tt
+none_lacks (r ∷ rules) n e is =
+    let both = none_there (lacks r e) n (first_place (λ r. lacks r e) (n + 1) rules) is in
+    (both.0, none_lacks rules (n + 1) e both.1)
+
+first_none : (rules : List RequiredRule) (n : ℕ) (e : EntryTexts) → AllByRecursion (λ r. lacks r e ≡ false) rules
+    → first_place (λ r. lacks r e) n rules ≡ None
+first_none [] n e all = refl
+first_none (r ∷ rules) n e all =
+    ap (λ b. cond b (Some n) (first_place (λ r. lacks r e) (n + 1) rules)) all.0 ∙ first_none rules (n + 1) e all.1
+
+there_by : (a b : Bool) → (a && not b) ≡ false → a ≡ true → b ≡ true
+there_by true true is fit = refl
+there_by true false is fit = absurd (false≢true (sym is))
+there_by false b is fit = absurd (false≢true fit)
+
+lacks_by : (a b : Bool) → (a ≡ true → b ≡ true) → (a && not b) ≡ false
+lacks_by true b f = ap not (f refl)
+lacks_by false b f = refl
+
+module _ (own : ModuleTexts) (edges : List EdgeTexts) where
+  abbrev entry : EntryTexts
+  entry = record { own = own; edges = Some edges }
+
+  each_has : (rules : List RequiredRule) → AllByRecursion (λ r. lacks r entry ≡ false) rules
+      → HasEach rules entry edges
+  each_has [] all = tt
+  each_has (r ∷ rules) all =
+      (there_by (fits r.edge.from own) (list_any (λ d. edge_fits r.edge d) edges) all.0, each_has rules all.1)
+
+  each_lacks : (rules : List RequiredRule) → HasEach rules entry edges
+      → AllByRecursion (λ r. lacks r entry ≡ false) rules
+  each_lacks [] all = tt
+  each_lacks (r ∷ rules) all =
+      (lacks_by (fits r.edge.from own) (list_any (λ d. edge_fits r.edge d) edges) all.0, each_lacks rules all.1)
+
+  none_of : (b : Option Breach) (place : Option ℕ) → or_lacking b place ≡ None → (b ≡ None) × (place ≡ None)
+  none_of None None is = (refl, refl)
+  none_of None (Some n) is = cc
+  none_of (Some breach) place is = cc
+
+  -- a module that keeps all rules has an edge for each required rule that fits it
+  pub kept_has : (policy : Policy) → entry_breach policy entry ≡ None
+      → (module_breach policy.modules own ≡ None) × HasEach policy.required entry edges
+  unfolding entry_breach
+  kept_has policy is =
+      let both = none_of (module_breach policy.modules own) (first_place (λ r. lacks r entry) 0 policy.required) is in
+      (both.0, each_has policy.required (none_lacks policy.required 0 entry both.1))
+
+  -- and one that the rules on modules allow and that has these edges keeps all rules
+  pub has_kept : (policy : Policy) → module_breach policy.modules own ≡ None
+      → HasEach policy.required entry edges → entry_breach policy entry ≡ None
+  unfolding entry_breach
+  has_kept policy allowed has =
+      ap (λ b. or_lacking b (first_place (λ r. lacks r entry) 0 policy.required)) allowed
+      ∙ ap (or_lacking None) (first_none policy.required 0 entry (each_lacks policy.required has))

@@ -1,9 +1,10 @@
 -- What a rule sees of a module and of an edge, as texts.
-use Rattle.std.specs.Prelude.{ℕ, Bool, List, Option, option_map}
+use Rattle.std.specs.Prelude.{ℕ, Bool, List, map, Option, option_map}
 use Rattle.std.proofs.Common.{◌⊎◌, inl, inr}
 use Rattle.std.specs.Option.{option_copied}
 use Rattle.graph_policy.specs.declared.seen.SeenModule.{SeenModule}
 use Rattle.graph_policy.specs.declared.seen.SeenEdge.{SeenEdge}
+use Rattle.graph_policy.specs.declared.seen.SeenEntry.{SeenEntry}
 use Rattle.graph_policy.specs.declared.seen.Seen.{Seen}
 use Rattle.graph_policy.specs.declared.seen.Seen.TheVariants as seen
 
@@ -23,6 +24,11 @@ pub record EdgeTexts : Type 0 where
   pub type_only : Bool
   pub dynamic : Bool
 
+-- an entry: what is seen of its specifier, and its edges if it is a module
+pub record EntryTexts : Type 0 where
+  pub own : ModuleTexts
+  pub edges : Option (List EdgeTexts)
+
 abbrev pub module_texts : SeenModule → ModuleTexts
 module_texts m = record {
   specifier = m.specifier.now;
@@ -41,6 +47,9 @@ edge_texts e = record {
   dynamic = e.dynamic;
 }
 
-abbrev pub seen_texts : Seen → (ModuleTexts ⊎ EdgeTexts)
-seen_texts (seen.Module m) = inl (module_texts m)
+abbrev pub entry_texts : SeenEntry → EntryTexts
+entry_texts e = record { own = module_texts e.own; edges = option_map (map edge_texts) (option_copied e.edges) }
+
+abbrev pub seen_texts : Seen → (EntryTexts ⊎ EdgeTexts)
+seen_texts (seen.Entry e) = inl (entry_texts e)
 seen_texts (seen.Edge e) = inr (edge_texts e)

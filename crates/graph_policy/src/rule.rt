@@ -41,19 +41,28 @@ pub struct EdgeRules {
     pub allowed: Option<Items<EdgeRule>>,
 }
 
+/// What a rule requires: a module that `edge.from` fits has an edge that `edge` fits.
+#[derive(Debug, Drop)]
+pub struct RequiredRule {
+    pub edge: EdgeRule,
+}
+
 #[derive(Debug, Drop)]
 pub struct Policy {
     pub modules: ModuleRules,
     pub edges: EdgeRules,
+    pub required: Items<RequiredRule>,
 }
 
-/// Why something is forbidden.
+/// Why a rule is broken.
 #[derive(Clone, Copy, Debug, PartialEq, Eq)]
 pub enum Breach {
     /// The rule of `forbidden` with this number, counted from 0, is the first that fits.
     Forbidden(usize),
     /// No rule of `allowed` fits.
     NotAllowed,
+    /// The rule of `required` with this number, counted from 0, is the first that asks for an edge that the module lacks.
+    Lacking(usize),
 }
 
 /// The first of a list that is forbidden.

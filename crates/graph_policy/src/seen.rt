@@ -26,8 +26,16 @@ pub struct SeenEdge<'a> {
     pub dynamic: bool,
 }
 
+/// What a rule sees of an entry.
+#[derive(Clone, Copy, Debug)]
+pub struct SeenEntry<'a> {
+    pub own: SeenModule<'a>,
+    /// Its edges; `None` for an entry that is no module.
+    pub edges: Option<&'a [SeenEdge<'a>]>,
+}
+
 #[derive(Clone, Copy, Debug)]
 pub enum Seen<'a> {
-    Module(SeenModule<'a>),
+    Entry(SeenEntry<'a>),
     Edge(SeenEdge<'a>),
 }

@@ -1,13 +1,13 @@
 -- Rules in JSON: what a value says of them, or where the first thing is for which it says nothing, in this order (this project's
 -- profile, after the form of dependency-cruiser; JSON is that of RFC 8259, pointers are those of RFC 6901).
-use Rattle.std.specs.Prelude.{ℕ, Bool, true, false, not, ◌||◌, List, [], ◌∷◌, codes, bytes_eq, Option, Some, None, option_map, is_some, Result, Ok, Err}
+use Rattle.std.specs.Prelude.{ℕ, Bool, true, false, not, ◌||◌, List, [], ◌∷◌, codes, bytes_eq, Option, Some, None, option_map, is_some, Ok}
 use Rattle.serde_json.specs.Data.{Data, Members}
 use Rattle.serde_json.specs.Find.{get, as_str}
 use Rattle.import_map.specs.json_reading.Reading.{Reading, and_then, text_of, bool_of, object_of, each_of, optional, only}
 use Rattle.graph_policy.specs.declared.rule.ModuleRule.{ModuleRule}
 use Rattle.graph_policy.specs.declared.rule.EdgeRule.{EdgeRule}
 use Rattle.graph_policy.specs.declared.rule.ModuleRules.{ModuleRules}
-use Rattle.graph_policy.specs.declared.rule.EdgeRules.{EdgeRules}
+use Rattle.graph_policy.specs.declared.rule.RequiredRule.{RequiredRule}
 use Rattle.graph_policy.specs.declared.rule.Policy.{Policy}
 use Rattle.graph_policy_file.specs.declared.target.Target.{Target}
 
@@ -110,19 +110,34 @@ abbrev pub knows_edge_rule : List ℕ → Bool
 knows_edge_rule key =
     bytes_eq key (codes "name") || bytes_eq key (codes "comment") || bytes_eq key (codes "from") || bytes_eq key (codes "to")
 
+-- of a condition on the edge's module and one on its target
+abbrev pub edge_rule : ModuleRule → Target → EdgeRule
+edge_rule f t = record {
+  from = f;
+  to = t.to;
+  text = t.text;
+  kind = t.kind;
+  type_only = t.type_only;
+  dynamic = t.dynamic;
+  resolved = t.resolved;
+}
+
 abbrev pub edge_rule_from : Data → Members → Reading EdgeRule
 edge_rule_from value members =
-    and_then (λ said. and_then (λ f. and_then (λ t. and_then (λ done. Ok (record {
-      from = f;
-      to = t.to;
-      text = t.text;
-      kind = t.kind;
-      type_only = t.type_only;
-      dynamic = t.dynamic;
-      resolved = t.resolved;
-    })) (only knows_edge_rule members))
+    and_then (λ said. and_then (λ f. and_then (λ t. and_then (λ done. Ok (edge_rule f t)) (only knows_edge_rule members))
     (optional target_of no_target (codes "to") value))
     (optional module_of no_condition (codes "from") value)) (remarks value)
+
+abbrev pub knows_required_rule : List ℕ → Bool
+knows_required_rule key =
+    bytes_eq key (codes "name") || bytes_eq key (codes "comment") || bytes_eq key (codes "module") || bytes_eq key (codes "to")
+
+abbrev pub required_rule_from : Data → Members → Reading RequiredRule
+required_rule_from value members =
+    and_then (λ said. and_then (λ m. and_then (λ t. and_then (λ done. Ok (record { edge = edge_rule m t }))
+    (only knows_required_rule members))
+    (optional target_of no_target (codes "to") value))
+    (optional module_of no_condition (codes "module") value)) (remarks value)
 
 abbrev pub module_rule_of : Data → Reading ModuleRule
 module_rule_of value = and_then (module_rule_from value) (object_of value)
@@ -130,7 +145,10 @@ module_rule_of value = and_then (module_rule_from value) (object_of value)
 abbrev pub edge_rule_of : Data → Reading EdgeRule
 edge_rule_of value = and_then (edge_rule_from value) (object_of value)
 
--- ---- the whole: forbidden and allowed edges, and in `modules` forbidden and allowed modules
+abbrev pub required_rule_of : Data → Reading RequiredRule
+required_rule_of value = and_then (required_rule_from value) (object_of value)
+
+-- ---- the whole: forbidden and allowed edges, in `modules` forbidden and allowed modules, and required edges
 
 abbrev pub knows_module_rules : List ℕ → Bool
 knows_module_rules key = bytes_eq key (codes "forbidden") || bytes_eq key (codes "allowed")
@@ -149,13 +167,16 @@ abbrev pub no_rules : ModuleRules
 no_rules = record { forbidden = []; allowed = None }
 
 abbrev pub knows_policy : List ℕ → Bool
-knows_policy key = bytes_eq key (codes "modules") || bytes_eq key (codes "forbidden") || bytes_eq key (codes "allowed")
+knows_policy key =
+    bytes_eq key (codes "modules") || bytes_eq key (codes "forbidden") || bytes_eq key (codes "allowed")
+    || bytes_eq key (codes "required")
 
 abbrev pub policy_from : Data → Members → Reading Policy
 policy_from value members =
-    and_then (λ m. and_then (λ f. and_then (λ a. and_then (λ done.
-    Ok (record { modules = m; edges = record { forbidden = f; allowed = a } }))
+    and_then (λ m. and_then (λ f. and_then (λ a. and_then (λ r. and_then (λ done.
+    Ok (record { modules = m; edges = record { forbidden = f; allowed = a }; required = r }))
     (only knows_policy members))
+    (optional (each_of required_rule_of) [] (codes "required") value))
     (asked (each_of edge_rule_of) (codes "allowed") value))
     (optional (each_of edge_rule_of) [] (codes "forbidden") value))
     (optional module_rules_of no_rules (codes "modules") value)

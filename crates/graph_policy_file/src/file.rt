@@ -1,4 +1,4 @@
-//! The whole: rules on modules and rules on edges.
+//! The whole: rules on modules, rules on edges, and edges that are required.
 ghost use Rattle.std.specs.Prelude.{◌≡◌, IfOk};
 ghost use Rattle.serde_json.specs.View.{view, members_view};
 ghost use Rattle.import_map.specs.json_reading.Reading as reading;
@@ -54,10 +54,15 @@ fn policy_with(
         Ok(allowed) => allowed,
         Err(at) => return Ok(Err(at)),
     };
+    let required = match given(alloc, value, "required", Items::new(alloc))? {
+        Ok(required) => required,
+        Err(at) => return Ok(Err(at)),
+    };
     match only::<PolicyKeys>(alloc, members)? {
         Ok(()) => Ok(Ok(Policy {
             modules,
             edges: EdgeRules { forbidden, allowed },
+            required,
         })),
         Err(at) => Ok(Err(at)),
     }
@@ -123,6 +128,6 @@ impl Keys for PolicyKeys {
     ghost knows = { spec.knows_policy };
 
     fn knows(key: &str) -> bool {
-        key == "modules" || key == "forbidden" || key == "allowed"
+        key == "modules" || key == "forbidden" || key == "allowed" || key == "required"
     }
 }

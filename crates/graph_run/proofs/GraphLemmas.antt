@@ -17,7 +17,7 @@ use Rattle.graph_entry.specs.Referrer.{referred_by}
 use Rattle.graph_bundle.specs.declared.bundle.Bundle.{Bundle}
 use Rattle.graph_run.specs.Run.{IsGraphOf, bundle_rules, bundle_resolves, bundle_starts}
 use Rattle.graph_builder.proofs.Theorems.{graph_told, reached_grows}
-use Rattle.graph_run.specs.Steps.{BundleWays, ways_of, rules_in, mapped_ways, mapped_resolves, bundle_ways, IsFresh, IsNew, IsUnforced, SaysLarge, waits_left}
+use Rattle.graph_run.specs.Steps.{BundleWays, rules_in, mapped_ways, mapped_resolves, bundle_ways, IsFresh, IsNew, IsUnforced, SaysLarge, waits_left}
 
 -- ---- a builder over a loader in memory
 
@@ -142,12 +142,12 @@ module _ (bundle : Bundle) {L : Type 0} (b : BuildingBy L BundleWays) (modules :
   pub graph_of : (r : Result GraphData BuildError) → b.roots ≡ bundle.roots → b.imports ≡ bundle.options.imports
       → IfOk r (λ g. IsGraph (rules_in b.following) b.starting (tells modules) g.entries)
       → IfOk r (λ g. g.roots ≡ b.roots)
-      → IfOk r (λ g. g.imports ≡ map (referred_by (ways_of b.following).resolves) b.imports)
+      → IfOk r (λ g. g.imports ≡ map (referred_by (mapped_resolves b.following.resolver.map)) b.imports)
       → IfOk r (λ g. length g.entries ≤ b.limit) → IfOk r (IsGraphOf bundle)
   graph_of (Ok g) roots imports graph its_roots its_imports within = record {
     roots = its_roots ∙ roots;
     imports = its_imports
-        ∙ ap (λ (w : BundleWays). map (referred_by (ways_of w).resolves) b.imports) ways
+        ∙ ap (λ (w : BundleWays). map (referred_by (mapped_resolves w.resolver.map)) b.imports) ways
         ∙ ap (map (referred_by (bundle_resolves bundle))) imports;
     entries = subst (λ (w : BundleWays). IsGraph (rules_in w) (bundle_starts bundle) (tells bundle.modules) g.entries)
         ways

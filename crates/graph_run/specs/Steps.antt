@@ -70,7 +70,7 @@ rules_in own = rules_by (AnalysedBy (ways_of own)) own.following
 
 -- where a builder's specifiers lead
 abbrev pub built_resolves : {L : Type 0} → BuildingBy L BundleWays → Resolves
-built_resolves b = (ways_of b.following).resolves
+built_resolves b = mapped_resolves b.following.resolver.map
 
 -- the rules of its graph
 abbrev pub built_rules : {L : Type 0} → BuildingBy L BundleWays → Rules

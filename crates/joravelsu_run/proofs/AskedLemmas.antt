@@ -12,9 +12,10 @@ use Rattle.forms_build.proofs.BundleLemmas.{forms_unforced, members_free as memb
 use Rattle.joravelsu_run.specs.declared.words.Form.{Form}
 use Rattle.joravelsu_run.specs.declared.words.Form.TheVariants as form
 use Rattle.joravelsu_run.specs.declared.asked.Telling.{Telling}
-use Rattle.joravelsu_run.specs.declared.asked.Telling.TheVariants.{Report, Order, Groups, Faults, Way, Verdict}
+use Rattle.joravelsu_run.specs.declared.asked.Telling.TheVariants.{Report, Order, Groups, Faults, Way, Gone, Verdict}
 use Rattle.joravelsu_run.specs.declared.asked.Asked.{Asked}
-use Rattle.joravelsu_run.specs.Asked.{following_in, knows_way, way_from, way_of, knows_ruled, ruled_from, ruled_of, asked_of}
+use Rattle.joravelsu_run.specs.Without.{without_of}
+use Rattle.joravelsu_run.specs.Asked.{following_in, knows_way, way_from, way_of, knows_gone, gone_from, gone_of, knows_ruled, ruled_from, ruled_of, asked_of}
 use Rattle.joravelsu_run.specs.Steps.{IsFree}
 
 -- a bundle with choices alone
@@ -62,6 +63,18 @@ way_free : (value : Data) (asked : Asked) → way_of value ≡ Ok asked → IsFr
 unfolding way_of
 way_free value asked is = way_members_free value (as_object value) asked is
 
+gone_members_free : (value : Data) (o : Option Members) (asked : Asked)
+    → and_then (gone_from value) (said o) ≡ Ok asked → IsFree asked
+gone_members_free value None asked is = absurd (cc)
+gone_members_free value (Some members) asked is =
+    members_unforced knows_gone value members asked.forms
+    (keyed_is (required without_of (codes "without") value) (λ forms without. Gone (following_in forms) without)
+    (forms_from_by knows_gone value members) asked is)
+
+gone_free : (value : Data) (asked : Asked) → gone_of value ≡ Ok asked → IsFree asked
+unfolding gone_of
+gone_free value asked is = gone_members_free value (as_object value) asked is
+
 pub asked_free : (f : Form) (value : Data) (asked : Asked) → asked_of f value ≡ Ok asked → IsFree asked
 asked_free form.Build value asked is =
     forms_unforced value asked.forms (plain_is Report (forms_of value) asked is).0
@@ -72,4 +85,5 @@ asked_free form.Groups value asked is =
 asked_free form.Faults value asked is =
     forms_unforced value asked.forms (plain_is Faults (forms_of value) asked is).0
 asked_free form.Why value asked is = way_free value asked is
+asked_free form.Gone value asked is = gone_free value asked is
 asked_free form.Policy value asked is = ruled_free value asked is

@@ -23,10 +23,12 @@ use Rattle.graph_check.specs.Check.{Look, kept, broken}
 use Rattle.joravelsu_run.specs.declared.words.Form.{Form}
 use Rattle.joravelsu_run.specs.declared.words.Form.TheVariants as form
 use Rattle.joravelsu_run.specs.declared.asked.Telling.{Telling}
-use Rattle.joravelsu_run.specs.declared.asked.Telling.TheVariants.{Report, Order, Groups, Faults, Way, Verdict}
+use Rattle.joravelsu_run.specs.declared.asked.Telling.TheVariants.{Report, Order, Groups, Faults, Way, Gone, Verdict}
 use Rattle.joravelsu_run.specs.declared.asked.Asked.{Asked}
 use Rattle.joravelsu_run.specs.Words.{IsForm, IsNoForm}
-use Rattle.joravelsu_run.specs.Asked.{following_in, knows_way, way_from, way_of, asked_of}
+use Rattle.graph_why.specs.declared.step.Without.{Without}
+use Rattle.joravelsu_run.specs.Without.{without_of}
+use Rattle.joravelsu_run.specs.Asked.{following_in, knows_way, way_from, way_of, knows_gone, gone_from, gone_of, asked_of}
 use Rattle.joravelsu_run.specs.Verdicts.{look_at, look_status}
 use Rattle.joravelsu_run.specs.Due.{IsTooLarge, Tells, OfAsked, graph, large, IsInput, IsDue, long, no_json, no_bundle, bundle, IsDueForm, IsRefused, IsLargeInput, IsSmallInput, Ends}
 use Rattle.joravelsu_run.specs.Run.{usage_line, IsDueFor, usage, Wrote, Comes}
@@ -79,6 +81,7 @@ any_ends Order g status text is = inl is.0
 any_ends Groups g status text is = inl is.0
 any_ends Faults g status text is = inl is.0
 any_ends (Way following to) g status text is = inl is.0
+any_ends (Gone following without) g status text is = inl is.0
 any_ends (Verdict policy) g status text is = verdict_ends (look_at policy g) status is.0
 
 -- a way is told of words that ask for one
@@ -103,6 +106,28 @@ unfolding way_of
 way_ends value a says g status text is =
     (subst (λ (t : Telling). Tells t g status text) (way_members value (as_object value) a says).1 is).0
 
+-- and so is what is gone
+gone_is : (key : Reading Without) (r : Reading FormsBundle) (a : Asked)
+    → and_then (λ w. and_then (λ forms. Ok (record { forms = forms; telling = Gone (following_in forms) w })) r) key
+    ≡ Ok a → (w : Without) × (a.telling ≡ Gone (following_in a.forms) w)
+gone_is (Err at) r a is = absurd (cc)
+gone_is (Ok w) (Err at) a is = absurd (cc)
+gone_is (Ok w) (Ok forms) a is =
+    let same : record { forms = forms; telling = Gone (following_in forms) w } ≡ a = cc in
+    (w, subst (λ (b : Asked). b.telling ≡ Gone (following_in b.forms) w) same refl)
+
+gone_members : (value : Data) (o : Option Members) (a : Asked) → and_then (gone_from value) (said o) ≡ Ok a
+    → (w : Without) × (a.telling ≡ Gone (following_in a.forms) w)
+gone_members value None a is = absurd (cc)
+gone_members value (Some members) a is =
+    gone_is (required without_of (codes "without") value) (forms_from_by knows_gone value members) a is
+
+gone_ends : (value : Data) (a : Asked) → gone_of value ≡ Ok a → (g : GraphData) (status : Status) (text : List ℕ)
+    → Tells a.telling g status text → status ≡ Done
+unfolding gone_of
+gone_ends value a says g status text is =
+    (subst (λ (t : Telling). Tells t g status text) (gone_members value (as_object value) a says).1 is).0
+
 told_ends : (f : Form) (value : Data) (a : Asked) → asked_of f value ≡ Ok a → (g : GraphData) (status : Status)
     (text : List ℕ) → Tells a.telling g status text → Ends f status
 told_ends form.Build value a says g status text is =
@@ -114,6 +139,7 @@ told_ends form.Groups value a says g status text is =
 told_ends form.Faults value a says g status text is =
     (subst (λ (t : Telling). Tells t g status text) (plain_is Faults (forms_of value) a says).1 is).0
 told_ends form.Why value a says g status text is = way_ends value a says g status text is
+told_ends form.Gone value a says g status text is = gone_ends value a says g status text is
 told_ends form.Policy value a says g status text is = any_ends a.telling g status text is
 
 -- ---- which status comes

@@ -10,8 +10,9 @@ use Rattle.graph_policy_file.specs.PolicyFile.{policy_of}
 use Rattle.joravelsu_run.specs.declared.words.Form.{Form}
 use Rattle.joravelsu_run.specs.declared.words.Form.TheVariants as form
 use Rattle.joravelsu_run.specs.declared.asked.Telling.{Telling}
-use Rattle.joravelsu_run.specs.declared.asked.Telling.TheVariants.{Report, Order, Groups, Faults, Way, Verdict}
+use Rattle.joravelsu_run.specs.declared.asked.Telling.TheVariants.{Report, Order, Groups, Faults, Way, Gone, Verdict}
 use Rattle.joravelsu_run.specs.declared.asked.Asked.{Asked}
+use Rattle.joravelsu_run.specs.Without.{without_of}
 
 -- a bundle with choices alone, of whose graph this is told
 abbrev pub plain_of : Telling → Data → Reading Asked
@@ -20,6 +21,9 @@ plain_of telling value = and_then (λ forms. Ok (record { forms = forms; telling
 -- the keys of a bundle with choices, and a further one
 abbrev pub knows_way : List ℕ → Bool
 knows_way key = knows_forms key || bytes_eq key (codes "why")
+
+abbrev pub knows_gone : List ℕ → Bool
+knows_gone key = knows_forms key || bytes_eq key (codes "without")
 
 abbrev pub knows_ruled : List ℕ → Bool
 knows_ruled key = knows_forms key || bytes_eq key (codes "policy")
@@ -39,6 +43,16 @@ way_from value members =
 unfoldable pub way_of : Data → Reading Asked
 way_of value = and_then (way_from value) (object_of value)
 
+-- the same, and what is left out of its graph, which is looked at first
+abbrev pub gone_from : Data → Members → Reading Asked
+gone_from value members =
+    and_then (λ without. and_then (λ forms. Ok (record { forms = forms; telling = Gone (following_in forms) without }))
+    (forms_from_by knows_gone value members))
+    (required without_of (codes "without") value)
+
+unfoldable pub gone_of : Data → Reading Asked
+gone_of value = and_then (gone_from value) (object_of value)
+
 -- the bundle with choices that an object with these members says, and the rules on its graph, which are looked at first
 abbrev pub ruled_from : Data → Members → Reading Asked
 ruled_from value members =
@@ -56,4 +70,5 @@ asked_of form.Order value = plain_of Order value
 asked_of form.Groups value = plain_of Groups value
 asked_of form.Faults value = plain_of Faults value
 asked_of form.Why value = way_of value
+asked_of form.Gone value = gone_of value
 asked_of form.Policy value = ruled_of value

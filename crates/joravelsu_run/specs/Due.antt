@@ -15,12 +15,12 @@ use Rattle.graph_run.specs.Run.{HasMoreThan, bundle_starts, too_long_line, not_j
 use Rattle.joravelsu_run.specs.declared.words.Form.{Form}
 use Rattle.joravelsu_run.specs.declared.words.Form.TheVariants as form
 use Rattle.joravelsu_run.specs.declared.asked.Telling.{Telling}
-use Rattle.joravelsu_run.specs.declared.asked.Telling.TheVariants.{Report, Order, Groups, Faults, Way, Verdict}
+use Rattle.joravelsu_run.specs.declared.asked.Telling.TheVariants.{Report, Order, Groups, Faults, Way, Gone, Verdict}
 use Rattle.joravelsu_run.specs.declared.asked.Asked.{Asked}
 use Rattle.joravelsu_run.specs.Asked.{asked_of}
 use Rattle.joravelsu_run.specs.Groups.{IsGroupsText}
 use Rattle.joravelsu_run.specs.Faults.{IsFaultsText}
-use Rattle.joravelsu_run.specs.Ways.{IsWhyText}
+use Rattle.joravelsu_run.specs.Ways.{IsWhyText, IsGoneText}
 use Rattle.joravelsu_run.specs.Verdicts.{verdict_status, verdict_line}
 
 -- more is reached than the bundle allows
@@ -32,13 +32,14 @@ IsTooLarge forms =
 -- ---- what is due
 
 -- what is told of a graph, and how that ends: its report, the order of its modules, their groups, what is wrong with their texts, a
--- way to a specifier, or what rules say of it
+-- way to a specifier, what is gone without something, or what rules say of it
 abbrev pub Tells : Telling → GraphData → Status → List ℕ → Type 0
 Tells Report graph status text = (status ≡ Done) × (text ≡ report_of graph)
 Tells Order graph status text = (status ≡ Done) × IsOrderText graph text
 Tells Groups graph status text = (status ≡ Done) × IsGroupsText graph text
 Tells Faults graph status text = (status ≡ Done) × IsFaultsText graph.entries text
 Tells (Way following to) graph status text = (status ≡ Done) × IsWhyText graph following to text
+Tells (Gone following without) graph status text = (status ≡ Done) × IsGoneText graph following without text
 Tells (Verdict policy) graph status text =
     (status ≡ verdict_status policy graph) × (text ≡ verdict_line policy graph)
 

@@ -1,4 +1,5 @@
 pub mod Words
+pub mod Without
 pub mod Asked
 pub mod Groups
 pub mod Ways

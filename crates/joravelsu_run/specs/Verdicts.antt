@@ -4,21 +4,22 @@ use Rattle.graph_entry.specs.Specifier.{text_of}
 use Rattle.graph_builder.specs.Graph.{GraphData}
 use Rattle.graph_policy.specs.declared.rule.Policy.{Policy}
 use Rattle.graph_policy.specs.declared.rule.Breach.{Breach}
-use Rattle.graph_policy.specs.declared.rule.Breach.TheVariants.{Forbidden, NotAllowed}
+use Rattle.graph_policy.specs.declared.rule.Breach.TheVariants.{Forbidden, NotAllowed, Lacking}
 use Rattle.graph_report.specs.Report.{line_end, blank, state, edge_words}
 use Rattle.graph_check.specs.SeenGraph.{Thing, held, edge, things_in}
 use Rattle.graph_check.specs.Check.{Look, kept, broken, look_from}
 use Rattle.graph_run.specs.declared.status.Status.{Status}
 use Rattle.graph_run.specs.declared.status.Status.TheVariants.{Done, BuildRefused}
 
--- the first thing that the rules forbid, or how many things were looked at
+-- the first thing that breaks a rule, or how many things were looked at
 abbrev pub look_at : Policy → GraphData → Look
 look_at policy graph = look_from policy graph 0 (things_in graph)
 
--- why a thing is forbidden: the number of the rule, counted from 0, or that no rule allows it
+-- why: the number of the rule that forbids it, counted from 0, that no rule allows it, or the number of the rule whose edge it lacks
 unfoldable pub breach_words : Breach → List ℕ
 breach_words (Forbidden rule) = codes "forbidden " ++ decimal rule
 breach_words NotAllowed = codes "not-allowed"
+breach_words (Lacking rule) = codes "lacking " ++ decimal rule
 
 -- a thing: an entry as the report has it, or the specifier of a module and the words of its edge
 unfoldable pub thing_words : Thing → List ℕ

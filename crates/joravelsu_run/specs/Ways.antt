@@ -9,6 +9,7 @@ use Rattle.graph_builder.specs.declared.following.Following.{Following}
 use Rattle.graph_builder.specs.Graph.{GraphData, texts, entry_of}
 use Rattle.graph_report.specs.Report.{line_end, blank, edge_words, edges_of}
 use Rattle.graph_why.specs.declared.step.Step.{Step}
+use Rattle.graph_why.specs.declared.step.Without.{Without}
 use Rattle.graph_why.specs.declared.step.Without.TheVariants as without
 use Rattle.graph_why.specs.Why.{IsPath, IsShortest, AreGone, step_of}
 use Rattle.graph_why.specs.Why as why
@@ -56,3 +57,9 @@ pub record IsWhyText (graph : GraphData) (following : Following) (to : Parts) (t
   pub is_way : IsWayText graph following to way
   pub are_gone : AreGone graph following (without.Entry to) (texts gone)
   pub both : text ≡ way ++ flat_map gone_line gone
+
+-- the text is that of the entries to which paths lead, and each over this entry or edge
+pub record IsGoneText (graph : GraphData) (following : Following) (left : Without) (text : List ℕ) : Type 0 where
+  pub gone : List Parts
+  pub are_gone : AreGone graph following left (texts gone)
+  pub lines : text ≡ flat_map gone_line gone

@@ -6,6 +6,7 @@ ghost use Rattle.graph_bundle.specs.Bundle.{IsJson};
 ghost use Rattle.joravelsu_run.specs.Asked as spec;
 ghost use Rattle.joravelsu_run.specs.Steps.{IsFree};
 
+use crate::without::without_at;
 use crate::words::Form;
 use base::Text;
 use forms_build::{FormsBundle, FormsKeys, forms_in, forms_with};
@@ -13,6 +14,7 @@ use graph_builder::Following;
 use graph_bundle::{BundleFault, Keys, fault_of, required};
 use graph_policy::Policy;
 use graph_policy_file::policy_at;
+use graph_why::Without;
 use import_map::json_reading::Reading;
 use serde_json::{Map, Value};
 use std::alloc::{AllocError, Global};
@@ -31,6 +33,8 @@ pub enum Telling {
     Faults,
     /// A shortest way of edges that are followed so to a specifier, and what only this leads to.
     Way(Following, Url),
+    /// What is gone without this, where edges are followed so.
+    Gone(Following, Without),
     /// What these rules say of it.
     Verdict(Policy),
 }
@@ -79,6 +83,7 @@ fn asked_in(alloc: Global, value: &Value, form: Form) -> Result<Reading<Asked>, 
         Form::Groups => plain_in(alloc, value, Telling::Groups),
         Form::Faults => plain_in(alloc, value, Telling::Faults),
         Form::Why => way_in(alloc, value),
+        Form::Gone => gone_in(alloc, value),
         Form::Policy => ruled_in(alloc, value),
     }
 }
@@ -121,6 +126,40 @@ fn way_with(
             Ok(Ok(Asked {
                 forms,
                 telling: Telling::Way(following, to),
+            }))
+        }
+        Err(at) => Ok(Err(at)),
+    }
+}
+
+/// A bundle with choices, and what is left out of its graph.
+#[tactic(auto, unfolding(crate::specs::Asked::gone_of))]
+fn gone_in(alloc: Global, value: &Value) -> Result<Reading<Asked>, AllocError>
+    ensures { IfOk result (λ r. r ≡ spec.gone_of (view value.now)) }
+{
+    match value.as_object() {
+        Some(members) => gone_with(alloc, value, members),
+        None => Ok(Err(Text::new(alloc))),
+    }
+}
+
+fn gone_with(
+    alloc: Global,
+    value: &Value,
+    members: &Map<String, Value>,
+) -> Result<Reading<Asked>, AllocError>
+    ensures { IfOk result (λ r. r ≡ spec.gone_from (view value.now) (members_view members.now.entries)) }
+{
+    let without = match without_at(alloc, value)? {
+        Ok(without) => without,
+        Err(at) => return Ok(Err(at)),
+    };
+    match forms_with::<GoneKeys>(alloc, value, members)? {
+        Ok(forms) => {
+            let following = following_in(&forms);
+            Ok(Ok(Asked {
+                forms,
+                telling: Telling::Gone(following, without),
             }))
         }
         Err(at) => Ok(Err(at)),
@@ -177,6 +216,17 @@ impl Keys for WayKeys {
 
     fn knows(key: &str) -> bool {
         FormsKeys::knows(key) || key == "why"
+    }
+}
+
+/// The keys of a bundle with choices and what is left out.
+struct GoneKeys;
+
+impl Keys for GoneKeys {
+    ghost knows = { spec.knows_gone };
+
+    fn knows(key: &str) -> bool {
+        FormsKeys::knows(key) || key == "without"
     }
 }
 

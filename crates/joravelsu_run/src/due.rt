@@ -10,7 +10,7 @@ use crate::asked::{Asked, Telling, take_asked};
 use crate::faults::fault_lines;
 use crate::groups::group_lines;
 use crate::verdicts::verdict_due;
-use crate::ways::why_lines;
+use crate::ways::{gone_lines, why_lines};
 use crate::words::Form;
 use deno_graph::{BuildError, ModuleGraph};
 use forms_build::build_forms;
@@ -72,6 +72,9 @@ fn told(alloc: Global, graph: &ModuleGraph, telling: &Telling) -> Result<Due, Al
         Telling::Groups => Ok(done(group_lines(alloc, graph)?)),
         Telling::Faults => Ok(done(fault_lines(alloc, graph)?)),
         Telling::Way(following, to) => Ok(done(why_lines(alloc, graph, *following, to)?)),
+        Telling::Gone(following, without) => {
+            Ok(done(gone_lines(alloc, graph, *following, without)?))
+        }
         Telling::Verdict(policy) => verdict_due(alloc, policy, graph),
     }
 }

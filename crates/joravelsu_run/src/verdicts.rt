@@ -18,7 +18,7 @@ pub fn verdict_due(alloc: Global, policy: &Policy, graph: &ModuleGraph) -> Resul
     ensures text { IfOk result (λ due. string_bytes due.text ≡ verdict_line policy.now graph.now) }
     ensures verdict { IfOk result (λ due. IsVerdict due.status) }
 {
-    let verdict = check(policy, graph)?;
+    let verdict = check(alloc, policy, graph)?;
     Ok(Due {
         status: status_of(verdict),
         text: line_of(alloc, verdict)?,
@@ -67,6 +67,10 @@ fn add_breach(out: &mut String, breach: Breach) -> Result<(), AllocError>
             add_number(out, rule)
         }
         Breach::NotAllowed => out.push_str("not-allowed"),
+        Breach::Lacking(rule) => {
+            out.push_str("lacking ")?;
+            add_number(out, rule)
+        }
     }
 }
 

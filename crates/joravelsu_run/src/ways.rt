@@ -3,7 +3,7 @@ ghost use Rattle.std.specs.Prelude.{◌≡◌, IfOk, OnOk, string_bytes};
 ghost use Rattle.std.specs.List.{flat_map};
 ghost use Rattle.std.specs.Option.{option_copied};
 ghost use Rattle.graph_report.specs.Adds.{Adds};
-ghost use Rattle.joravelsu_run.specs.Ways.{IsWayText, IsWhyText, gone_line, edge_at, path_lines, step_line, step_words, words_of};
+ghost use Rattle.joravelsu_run.specs.Ways.{IsGoneText, IsWayText, IsWhyText, gone_line, edge_at, path_lines, step_line, step_words, words_of};
 
 use deno_graph::ModuleGraph;
 use graph_builder::Following;
@@ -24,6 +24,21 @@ pub fn why_lines(
 {
     let mut out = way_lines(alloc, graph, following, to)?;
     let gone = gone_without(alloc, graph, following, &Without::Entry(to.clone()?))?;
+    add_gone(&mut out, gone.as_slice())?;
+    Ok(out)
+}
+
+/// A line for each entry to which paths lead, and none without this entry or edge.
+pub fn gone_lines(
+    alloc: Global,
+    graph: &ModuleGraph,
+    following: Following,
+    without: &Without,
+) -> Result<String, AllocError>
+    ensures { IfOk result (λ text. IsGoneText graph.now following without.now (string_bytes text)) }
+{
+    let mut out = String::new(alloc);
+    let gone = gone_without(alloc, graph, following, without)?;
     add_gone(&mut out, gone.as_slice())?;
     Ok(out)
 }

@@ -13,6 +13,8 @@ pub enum Form {
     Groups,
     /// `why`: a shortest way to the specifier that is read with it.
     Why,
+    /// `gone`: what is gone without the entry or edge that is read with it.
+    Gone,
     /// `faults`: what is wrong with the texts of its modules.
     Faults,
     /// `policy`: what the rules that are read with it say of its graph.
@@ -37,6 +39,7 @@ fn plain_form(word: &str) -> Option<Form>
         "order" => Some(Form::Order),
         "groups" => Some(Form::Groups),
         "why" => Some(Form::Why),
+        "gone" => Some(Form::Gone),
         "faults" => Some(Form::Faults),
         "policy" => Some(Form::Policy),
         _ => None,

@@ -2,7 +2,7 @@
 """The graph of some files by a resolution of its own: folder.py FILE..
 
 A relative specifier is a file as it is written, with .ts, .tsx, .js or .mjs after it, or the index of a folder; a bare one is looked up
-in the folders node_modules above. Each line is a file, or an edge of it with its line and column, and what that leads to.
+in the folders node_modules above. Each line is a file, or an edge of it with its line and column, and what that resolves to.
 """
 import os
 import sys

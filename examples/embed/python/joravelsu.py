@@ -49,6 +49,8 @@ _KINDS = ("import", "export", "import-equals", "dynamic", "reference-path", "ref
 _CALLS = ("import", "require")
 _MENTIONS = ("name", "import", "meta", "with", "member", "key", "this")
 _NO_UTF8, _NAMED = 7, 2
+_LEXICAL = (None, "UnterminatedString", "UnterminatedComment", "UnterminatedTemplate", "UnterminatedRegExp", "InvalidEscape", "InvalidChar", "Unbalanced")
+_SYNTAX = "Syntax"
 _REASONS = {
     6: "the text is over 16 MiB",
     7: "the text is no UTF-8",
@@ -121,13 +123,15 @@ class Exports(NamedTuple):
 
 
 class SourceError(ValueError):
-    """Why a source isn't read. `status` is the library's; `place` is the byte of the text at which a fault is, or None."""
+    """Why a source isn't read. `status` is the library's; `place` is the byte of the text at which a fault is, or None; `kind` names what
+    is wrong at it, such as `UnterminatedString`, or is `Syntax`, or None."""
 
-    def __init__(self, status: int, place: int | None):
+    def __init__(self, status: int, place: int | None, kind: str | None = None):
         at = "" if place is None else f" at byte {place}"
         super().__init__(_REASONS.get(status, f"status {status}") + at)
         self.status = status
         self.place = place
+        self.kind = kind
 
 
 class ChangeError(ValueError):
@@ -315,8 +319,8 @@ def version() -> tuple[int, int, int]:
     return number // 10_000, number // 100 % 100, number % 100
 
 
-def _refused(status: int, place: int) -> SourceError:
-    return SourceError(status, place if status == _NO_UTF8 or status >= 10 else None)
+def _refused(status: int, place: int, fault: int) -> SourceError:
+    return SourceError(status, place if status == _NO_UTF8 or status >= 10 else None, _SYNTAX if status > 10 else _LEXICAL[fault])
 
 
 class _Room(threading.local):
@@ -358,7 +362,7 @@ def imports_of(text: str | bytes, media_type: int) -> list[Site]:
         if status == _DONE:
             return _sites_in(room, answer)
         if status != _NO_ROOM:
-            raise _refused(status, answer.place)
+            raise _refused(status, answer.place, answer.fault)
         room.resize(max(answer.sites, len(room.sites)), max(answer.value_bytes, len(room.values)))
 
 
@@ -378,7 +382,7 @@ def unread_in(text: str | bytes) -> list[Call]:
         if status == _DONE:
             return [Call(_CALLS[it.kind], it.start, it.end) for it in calls[: answer.calls]]
         if status != _NO_ROOM:
-            raise _refused(status, answer.place)
+            raise _refused(status, answer.place, answer.fault)
         length = answer.calls
 
 
@@ -398,7 +402,7 @@ def mentions_in(text: str | bytes, media_type: int, allowed: Sequence[str], stri
         if status == _DONE:
             return [Mention(_MENTIONS[it.reason], it.start, it.end) for it in found[: answer.mentions]]
         if status != _NO_ROOM:
-            raise _refused(status, answer.place)
+            raise _refused(status, answer.place, answer.fault)
         length = answer.mentions
 
 
@@ -431,7 +435,7 @@ def rewrite(text: str | bytes, media_type: int, specifiers: dict[int, str]) -> s
         if status in _REFUSALS:
             raise ChangeError(status, numbers[answer.change])
         if status != _NO_ROOM:
-            raise _refused(status, answer.place)
+            raise _refused(status, answer.place, answer.fault)
         length = answer.needed
 
 
@@ -455,7 +459,7 @@ def exports_of(text: str | bytes, media_type: int, common_js: bool = False) -> E
             told = [text[it.start:it.end].decode() for it in names[: answer.exports + answer.reexports]]
             return Exports(told[: answer.exports], told[answer.exports :])
         if status != _NO_ROOM:
-            raise _refused(status, answer.place)
+            raise _refused(status, answer.place, answer.fault)
         names_length, values_length = answer.exports + answer.reexports, answer.value_bytes
 
 

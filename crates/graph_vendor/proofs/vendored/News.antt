@@ -33,7 +33,7 @@ use Rattle.graph_entry.specs.declared.entry.Entry.{Entry}
 use Rattle.graph_entry.specs.declared.entry.Entry.TheVariants as entry
 use Rattle.graph_entry.specs.Specifier.{text_of, loadable}
 use Rattle.graph_entry.specs.Entry.{edge_target}
-use Rattle.graph_entry.specs.Resolution.{Resolves, Resolved, resolve}
+use Rattle.graph_entry.specs.Resolution.{Resolves, Resolved, resolve, of_any_kind}
 use Rattle.graph_entry.specs.Reading.{with_sites, Sites}
 use Rattle.graph_entry.specs.Ways.{Ways, default_ways}
 use Rattle.graph_entry.specs.Json.{OfJson, with_json, no_json, json_module}
@@ -100,7 +100,7 @@ abbrev pub IsGood : Ways → Specifier → Module → Type 0
 IsGood ways s (Js m) = (kind_of m.media_type ≡ Some module_kind.Source) × IsUtf8 m.text
 IsGood ways s (Json m) = IsUtf8 m.text
 IsGood ways s (Wasm m) = (deps : Deps) × ReadsModule true m.bytes (Ok deps)
-    × (m.dependencies ≡ map (wasm_dependency ways.resolves s) deps.imports)
+    × (m.dependencies ≡ map (wasm_dependency (ways.resolves kind.Wasm) s) deps.imports)
 
 same_module : (m n : Module) → entry.Module m ≡ entry.Module n → m ≡ n
 same_module m n e = cc
@@ -126,12 +126,12 @@ good_json ways s bytes m (with_json u made) =
     subst (IsGood ways s) (sym is) (read_utf8 bytes u)
 good_json ways s bytes m (no_json isnt made) = absurd (let bad : ⊥ = cc in bad)
 
-good_wasm : (ways : Ways) (s : Specifier) (bytes : List ℕ) (m : Module) → OfWasm ways.resolves s bytes (entry.Module m)
+good_wasm : (ways : Ways) (s : Specifier) (bytes : List ℕ) (m : Module) → OfWasm (ways.resolves kind.Wasm) s bytes (entry.Module m)
     → IsGood ways s m
 good_wasm ways s bytes m (with_imports deps reads made) =
     let is : m ≡ Wasm (record {
       bytes = bytes;
-      dependencies = map (wasm_dependency ways.resolves s) deps.imports;
+      dependencies = map (wasm_dependency (ways.resolves kind.Wasm) s) deps.imports;
     }) = same_module m _ made in
     subst (IsGood ways s) (sym is) (deps, reads, refl)
 good_wasm ways s bytes m (faulty fault other reads made) = absurd (let bad : ⊥ = cc in bad)
@@ -222,7 +222,7 @@ edge_led entries names at d keeps none = by d.resolution keeps none
 
 edge_moves : (entries : Entries) (names : Names) (changes : List TextChange) (at : Specifier) (d : Dependency)
     (site : Site) → SiteFor entries names changes d site → keeps_edge entries names at d.resolution ≡ true
-    → edge_cause d.resolution d.kind ≡ None → EdgeMoves entries names changes d (dependency_of resolve at site)
+    → edge_cause d.resolution d.kind ≡ None → EdgeMoves entries names changes d (dependency_of (of_any_kind resolve) at site)
 edge_moves entries names changes at d site is keeps none = record {
   kind = is.kind;
   type_only = is.type_only;
@@ -235,7 +235,7 @@ edge_moves entries names changes at d site is keeps none = record {
 
 edges_move : (entries : Entries) (names : Names) (changes : List TextChange) (at : Specifier) (ds : List Dependency)
     (sites : List Site) → SitesFor entries names changes ds sites → keep_edges entries names at ds ≡ true
-    → edges_cause ds ≡ None → EdgesMove entries names changes ds (map (dependency_of resolve at) sites)
+    → edges_cause ds ≡ None → EdgesMove entries names changes ds (map (dependency_of (of_any_kind resolve) at) sites)
 edges_move entries names changes at [] [] are keeps free = tt
 edges_move entries names changes at [] (site ∷ sites) are keeps free = absurd are
 edges_move entries names changes at (d ∷ ds) [] are keeps free = absurd are
@@ -278,7 +278,7 @@ new_js v s m at =
     (v.parser s m.media_type m.text own.sites own.read) own.same free.1
     (all_texts entries names t m.dependencies n.serves.edges free.1) in
     let text = changed m.text 0 (new_literals entries names m) in
-    let made : Entry = module_of resolve t m.media_type text source.sites in
+    let made : Entry = module_of (of_any_kind resolve) t m.media_type text source.sites in
     let read : without_mark (in_file text) ≡ text = file_read text in
     let of_text : OfText default_ways t m.media_type text made =
     record { sites = Ok source.sites; read = with_sites source.sites source.has_sites refl; is = refl } in
@@ -292,7 +292,7 @@ new_js v s m at =
       first = answered v s (Js m) n made at
           (of_kind t m.media_type module_kind.Source (in_file text) made is_good.0 of_bytes);
       moves = (
-        js_module resolve t m.media_type text source.sites,
+        js_module (of_any_kind resolve) t m.media_type text source.sites,
         record {
           media_type = refl;
           text = refl;
@@ -338,8 +338,8 @@ pub wasm_alone : (v : Setting) (s : Specifier) (m : WasmModule)
 wasm_alone v s m at =
     let free : edges_cause m.dependencies ≡ None = is_free_entry v s (entry.Module (Wasm m)) at in
     let is_good : IsGood v.ways s (Wasm m) = good v s (Wasm m) at in
-    is_good.2 ∙ ap (map (wasm_dependency v.ways.resolves s))
-    (no_imports v.ways.resolves s is_good.0.imports
+    is_good.2 ∙ ap (map (wasm_dependency (v.ways.resolves kind.Wasm) s))
+    (no_imports (v.ways.resolves kind.Wasm) s is_good.0.imports
     (subst (λ (ds : List Dependency). edges_cause ds ≡ None) is_good.2 free))
 
 new_wasm : (v : Setting) (s : Specifier) (m : WasmModule) → entry_of (entries_of v) s ≡ Some (entry.Module (Wasm m))
@@ -352,10 +352,10 @@ new_wasm v s m at =
     let is_good : IsGood v.ways s (Wasm m) = good v s (Wasm m) at in
     let deps : Deps = is_good.0 in
     let none : deps.imports ≡ [] =
-    no_imports v.ways.resolves s deps.imports
+    no_imports (v.ways.resolves kind.Wasm) s deps.imports
     (subst (λ (ds : List Dependency). edges_cause ds ≡ None) is_good.2 free) in
     let few : m.dependencies ≡ map (wasm_dependency resolve t) deps.imports =
-    is_good.2 ∙ ap (map (wasm_dependency v.ways.resolves s)) none
+    is_good.2 ∙ ap (map (wasm_dependency (v.ways.resolves kind.Wasm) s)) none
     ∙ sym (ap (map (wasm_dependency resolve t)) none) in
     let same : made ≡ wasm_module resolve t m.bytes deps.imports =
     ap (λ (ds : List Dependency). entry.Module (Wasm (record { bytes = m.bytes; dependencies = ds }))) few in
@@ -402,7 +402,7 @@ kind_makes : (ways : Ways) (s : Specifier) (media : MediaType) (kind : ModuleKin
     → OfKind ways s media kind bytes made → is_content made ≡ true
 kind_makes ways s media module_kind.Source bytes made h = bytes_make ways s media bytes made h
 kind_makes ways s media module_kind.Json bytes made h = json_makes bytes made h
-kind_makes ways s media module_kind.Wasm bytes made h = wasm_makes ways.resolves s bytes made h
+kind_makes ways s media module_kind.Wasm bytes made h = wasm_makes (ways.resolves kind.Wasm) s bytes made h
 
 content_makes : (ways : Ways) (s : Specifier) (media : MediaType) (bytes : List ℕ) (made : Entry)
     → OfContent ways s media bytes made → is_content made ≡ true

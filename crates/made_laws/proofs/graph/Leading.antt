@@ -21,7 +21,7 @@ use Rattle.graph_entry.specs.declared.entry.Dependency.{Dependency}
 use Rattle.graph_entry.specs.declared.entry.Entry.{Entry}
 use Rattle.graph_entry.specs.Specifier.{text_of}
 use Rattle.graph_entry.specs.Entry.{edge_target}
-use Rattle.graph_entry.specs.Resolution.{resolve_by, resolve}
+use Rattle.graph_entry.specs.Resolution.{resolve_by, resolve, of_any_kind}
 use Rattle.graph_entry.specs.Reading.{ReadsSource, with_sites, no_program}
 use Rattle.graph_entry.specs.Json.{with_json, no_json}
 use Rattle.graph_entry.specs.Wasm.{with_imports, faulty}
@@ -59,8 +59,8 @@ resolved i j li lj = rw (specifier_read i None (omega (arith, li))) (rw (unread_
 
 module _ (count i : ℕ) (below : i < count) (few : count < 2 ^ 62) (follows : Dependency → Bool) where
   leads_to : (site : Site) (t : Specifier) → Imports count site.value
-      → led_to follows (dependency_of resolve (specifier_text i) site) ≡ Some t → Numbered count t
-  leads_to site t imports is = by (follows (dependency_of resolve (specifier_text i) site)) is
+      → led_to follows (dependency_of (of_any_kind resolve) (specifier_text i) site) ≡ Some t → Numbered count t
+  leads_to site t imports is = by (follows (dependency_of (of_any_kind resolve) (specifier_text i) site)) is
     where
       target : resolve (specifier_text i) site.value ≡ Ok (url_at imports.number)
       target =
@@ -68,7 +68,7 @@ module _ (count i : ℕ) (below : i < count) (few : count < 2 ^ 62) (follows : D
           ∙ resolved i imports.number (omega (arith, below, few)) (omega (arith, imports.below, few))
 
       by : (b : Bool)
-          → (if b then edge_target (dependency_of resolve (specifier_text i) site) else None) ≡ Some t
+          → (if b then edge_target (dependency_of (of_any_kind resolve) (specifier_text i) site) else None) ≡ Some t
           → Numbered count t
       by true e =
           let same : Some (text_of (url_at imports.number)) ≡ Some t
@@ -79,26 +79,26 @@ module _ (count i : ℕ) (below : i < count) (few : count < 2 ^ 62) (follows : D
 
   one_edge : (site : Site) (rest : List Specifier) (t : Specifier) → Imports count site.value
       → (has rest t ≡ true → Numbered count t)
-      → has (cons_option (led_to follows (dependency_of resolve (specifier_text i) site)) rest) t ≡ true
+      → has (cons_option (led_to follows (dependency_of (of_any_kind resolve) (specifier_text i) site)) rest) t ≡ true
       → Numbered count t
-  one_edge site rest t imports on h = by (led_to follows (dependency_of resolve (specifier_text i) site)) refl h
+  one_edge site rest t imports on h = by (led_to follows (dependency_of (of_any_kind resolve) (specifier_text i) site)) refl h
     where
-      first : (x : Specifier) (b : Bool) → led_to follows (dependency_of resolve (specifier_text i) site) ≡ Some x
+      first : (x : Specifier) (b : Bool) → led_to follows (dependency_of (of_any_kind resolve) (specifier_text i) site) ≡ Some x
           → bytes_eq t x ≡ b → (b || has rest t) ≡ true → Numbered count t
       first x true is e k = leads_to site t imports (is ∙ ap Some (sym ((bytes_eq-Decides t x).0 e)))
       first x false is e k = on k
 
-      by : (o : Option Specifier) → led_to follows (dependency_of resolve (specifier_text i) site) ≡ o
+      by : (o : Option Specifier) → led_to follows (dependency_of (of_any_kind resolve) (specifier_text i) site) ≡ o
           → has (cons_option o rest) t ≡ true → Numbered count t
       by None is k = on k
       by (Some x) is k = first x (bytes_eq t x) is refl k
 
   edges_lead : (sites : List Site) (t : Specifier) → All (λ site. Imports count site.value) sites
-      → has (filter_map (led_to follows) (map (dependency_of resolve (specifier_text i)) sites)) t ≡ true
+      → has (filter_map (led_to follows) (map (dependency_of (of_any_kind resolve) (specifier_text i)) sites)) t ≡ true
       → Numbered count t
   edges_lead [] t all h = absurd cc
   edges_lead (site ∷ sites) t all h =
-      one_edge site (filter_map (led_to follows) (map (dependency_of resolve (specifier_text i)) sites)) t
+      one_edge site (filter_map (led_to follows) (map (dependency_of (of_any_kind resolve) (specifier_text i)) sites)) t
       (All-head (λ (s : Site). Imports count s.value) site sites all)
       (edges_lead sites t (All-tail (λ (s : Site). Imports count s.value) site sites all)) h
 
@@ -156,9 +156,9 @@ module _ (count i : ℕ) (below : i < count) (few : count < 2 ^ 62) (following :
       by (with_sites found has_sites is) =
           edges_lead count i below few _ found t (module_sites count i media found below few has_sites)
           (sym (ap (λ (e : Entry). has (targets rules e) t)
-          (of.is ∙ ap (source_entry resolve (specifier_text i) media (module_text count i)) is)) ∙ h)
+          (of.is ∙ ap (source_entry (of_any_kind resolve) (specifier_text i) media (module_text count i)) is)) ∙ h)
       by (no_program kind range fault is) =
-          no_target made _ (of.is ∙ ap (source_entry resolve (specifier_text i) media (module_text count i)) is) refl h
+          no_target made _ (of.is ∙ ap (source_entry (of_any_kind resolve) (specifier_text i) media (module_text count i)) is) refl h
 
   kind_leads : (media : MediaType) (kind : ModuleKind) (made : Entry)
       → OfKind default_ways (specifier_text i) media kind (module_text count i) made

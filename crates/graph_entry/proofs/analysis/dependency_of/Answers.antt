@@ -11,7 +11,7 @@ pub returns : goal.returns
 unfolding resolve_by
 returns g c =
     let s = text_of c.args.source.specifier.now in
-    let asks = g.R.Resolver.resolving c.args.resolver.now in
+    let asks = g.R.KindResolver.resolving_by_kind c.args.resolver.now c.args.site.kind in
     let found : c.in_ok-resolution.resolution ≡ resolve_by asks s c.args.site.value
     = c.in_ok-resolution.ensures
     ∙ ap (λ (t : List ℕ). resolved_by asks (read_of c.args.source.base.now) t) c.as_str.ensures

@@ -11,3 +11,7 @@ returns-in-Ok-Error g c =
     let ways = ways_by (g.R.Resolver.resolving c.args.resolver.now) (g.M.ModuleAnalyzer.reads c.args.analyzer.now) in
     parsed_error (OfContent ways s (media_type_at s c.args.headers.now) c.args.content) c.in-Ok-Error.error
     (rw c.in-Ok-Error.field-0-is at c.in-Ok-Error.ensures)
+
+-- the module that it makes
+pub returns-in-Ok-Module : goal.returns-in-Ok-Module
+returns-in-Ok-Module g c = rw c.in-Ok-Module.field-0-is at c.in-Ok-Module.ensures

@@ -1,13 +1,12 @@
 use Rattle.std.proofs.Common.{◌≡◌, map, take}
 use Rattle.wasm_dep_analyzer.specs.Imports.{imported}
 use Rattle.graph_entry.specs.Specifier.{text_of}
-use Rattle.graph_entry.specs.Resolution.{resolve_by}
-use Rattle.graph_entry.specs.Wasm.{wasm_dependency}
+use Rattle.graph_entry.specs.Wasm.{wasm_resolves, wasm_dependency}
 use Rattle.graph_entry.proofs.wasm.edges_of.Given as goal
 
 -- one edge for each import so far, in order
 abbrev pub invariant-loop-import : goal.invariant-loop-import
 invariant-loop-import g l =
     l.edges
-    ≡ map (wasm_dependency (resolve_by (g.R.Resolver.resolving l.resolver)) (text_of l.specifier))
+    ≡ map (wasm_dependency (wasm_resolves (g.R.KindResolver.resolving_by_kind l.resolver)) (text_of l.specifier))
     (map imported (take l.import-index l.imports))

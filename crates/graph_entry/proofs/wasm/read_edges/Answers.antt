@@ -3,8 +3,7 @@ use Rattle.wasm_dep_analyzer.specs.declared.deps.Import.{Import}
 use Rattle.wasm_dep_analyzer.specs.Imports.{imported}
 use Rattle.wasm_dep_analyzer.specs.Module.{seen}
 use Rattle.graph_entry.specs.Specifier.{text_of}
-use Rattle.graph_entry.specs.Resolution.{resolve_by}
-use Rattle.graph_entry.specs.Wasm.{wasm_dependency}
+use Rattle.graph_entry.specs.Wasm.{wasm_resolves, wasm_dependency}
 use Rattle.graph_entry.proofs.wasm.read_edges.Goals as goal
 
 -- the edges of the imports that were read
@@ -14,7 +13,7 @@ returns-in_ok-edges_of-in-Ok g c = (
   c.in-Ok.ensures.read,
   c.in_ok-edges_of-in-Ok.ensures
       ∙ ap (λ (is : List Import). map
-      (wasm_dependency (resolve_by (g.R.Resolver.resolving c.args.resolver.now)) (text_of c.args.specifier.now))
+      (wasm_dependency (wasm_resolves (g.R.KindResolver.resolving_by_kind c.args.resolver.now)) (text_of c.args.specifier.now))
       (map imported is))
       c.deref.ensures.value,
 )

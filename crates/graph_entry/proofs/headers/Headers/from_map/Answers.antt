@@ -1,4 +1,4 @@
-use Rattle.std.proofs.Common.{◌≡◌, [], sym, ap, ◌∙◌, string_bytes, List, ℕ}
+use Rattle.std.proofs.Common.{[], sym, ap, ◌∙◌, string_bytes, List, ℕ}
 use Rattle.graph_entry.specs.Headers.{HeaderList, headers_of, with_header, with_headers}
 use Rattle.graph_entry.proofs.HeadersLemmas.{with_headers-push}
 use Rattle.graph_entry.proofs.headers.Headers.from_map.Goals as goal

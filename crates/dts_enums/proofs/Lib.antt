@@ -1,0 +1,9 @@
+pub mod StartForms
+pub mod NumberForms
+pub mod NumberLemmas
+pub mod ValueLemmas
+pub mod TurnLemmas
+pub mod PostLemmas
+pub mod LeanLemmas
+pub mod CopyLemmas
+pub mod EnumLemmas

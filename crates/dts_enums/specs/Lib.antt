@@ -1,0 +1,4 @@
+-- values of enums
+pub mod Forms
+-- enums
+pub mod Enums
