@@ -1,28 +1,23 @@
 -- The graph of a bundle with choices, of what its builder is.
-use Rattle.std.proofs.Common.{◌≡◌, refl, sym, ◌∙◌, ap, subst, ℕ, ◌≤◌, Bool, List, length, map, Option, Some, None, Result, Ok, Err, IfOk, IfErr}
+use Rattle.std.proofs.Common.{◌≡◌, refl, sym, ◌∙◌, ap, subst, ℕ, ◌≤◌, Bool, List, length, map, Option, Result, Ok, Err, IfOk, IfErr}
 use Rattle.url.specs.Parts.{Parts}
 use Rattle.graph_entry.specs.declared.answer.LoadAnswer.{LoadAnswer}
 use Rattle.graph_entry.specs.declared.referrer.ReferrerImports.{ReferrerImports}
-use Rattle.es_site.specs.declared.site.DependencyKind.TheVariants.{Referrer}
-use Rattle.import_map.specs.ImportMap.{MapData, map_resolve}
-use Rattle.specifier_resolver.specs.Resolver.{resolving_or}
-use Rattle.graph_entry.specs.Resolution.{Resolves, resolve_by}
-use Rattle.graph_entry.specs.Referrer.{referrer_resolves, referred_by, starts_by}
+use Rattle.graph_entry.specs.Resolution.{Resolves}
+use Rattle.graph_entry.specs.Referrer.{referred_by, starts_by}
 use Rattle.graph_builder.specs.Reach.{Specifier}
 use Rattle.graph_builder.specs.Graph.{GraphData, IsGraph}
 use Rattle.graph_builder.specs.declared.error.BuildError.{BuildError}
 use Rattle.graph_builder.specs.Memory.{Memory, tells, data_of}
 use Rattle.graph_builder.specs.Loader.{LoaderData}
 use Rattle.graph_builder.specs.Events.{asked_of, log_of}
-use Rattle.graph_builder.specs.Builder.{BuildingBy, following_of, new_building_by}
+use Rattle.graph_builder.specs.Builder.{BuildingBy, new_building_by}
 use Rattle.graph_bundle.specs.declared.bundle.Bundle.{Bundle}
 use Rattle.graph_run.specs.Run.{bundle_resolves, bundle_starts}
-use Rattle.graph_run.specs.Steps.{BundleWays, IsFresh, IsNew, SaysLarge}
+use Rattle.graph_run.specs.Steps.{BundleWays, IsFresh, IsNew, SaysLarge, bundle_ways, mapped_resolves}
 use Rattle.forms_analyzer.specs.declared.analyzer.FormsAnalyzer.{FormsAnalyzer}
 use Rattle.forms_build.specs.declared.bundle.FormsBundle.{FormsBundle}
-use Rattle.forms_build.specs.declared.resolver.FormsResolver.{FormsResolver}
-use Rattle.forms_build.specs.Resolver.{map_for}
-use Rattle.forms_build.specs.Forms.{IsGraphOf, analyzer_of, resolver_of, forms_resolving, forms_rules, FormsWays, rules_in, resolves_of, ways_reading, reread}
+use Rattle.forms_build.specs.Forms.{IsGraphOf, analyzer_of, forms_rules, FormsWays, rules_in, ways_reading, reread}
 
 -- a builder over a loader to which nothing happened yet is new
 new_of : {L W : Type 0} (own : W) (resolves : Resolves) (roots : List Parts) (imports : List ReferrerImports)
@@ -37,35 +32,23 @@ new_of own resolves roots imports limit loader seen fresh = record {
   goes_on = refl;
 }
 
--- so is one that resolves and reads otherwise
-pub reread_new : (is_allowed : Bool) (resolver : FormsResolver) (analyzer : FormsAnalyzer)
-    (plain : BuildingBy Memory BundleWays) (b : BuildingBy Memory FormsWays)
-    → b ≡ reread is_allowed resolver analyzer plain → IsFresh (data_of plain.loader) → IsNew (data_of b.loader) b
-reread_new is_allowed resolver analyzer plain b again fresh =
-    let ways = ways_reading is_allowed resolver analyzer plain.following.following in
+-- so is one that reads otherwise
+pub reread_new : (is_allowed : Bool) (analyzer : FormsAnalyzer) (plain : BuildingBy Memory BundleWays)
+    (b : BuildingBy Memory FormsWays)
+    → b ≡ reread is_allowed analyzer plain → IsFresh (data_of plain.loader) → IsNew (data_of b.loader) b
+reread_new is_allowed analyzer plain b again fresh =
     subst (λ (x : BuildingBy Memory FormsWays). IsNew (data_of x.loader) x) (sym again)
-    (new_of ways (resolves_of ways) plain.roots plain.imports plain.limit plain.loader (data_of plain.loader) fresh)
+    (new_of (ways_reading is_allowed analyzer plain.following) (mapped_resolves plain.following.resolver.map)
+    plain.roots plain.imports plain.limit plain.loader (data_of plain.loader) fresh)
 
 -- what a bundle with choices goes by
 abbrev pub ways_chosen : FormsBundle → FormsWays
 ways_chosen forms =
-    ways_reading forms.chosen.json_without_attribute (resolver_of forms) (analyzer_of forms)
-    (following_of forms.chosen.bundle.options)
+    ways_reading forms.chosen.json_without_attribute (analyzer_of forms) (bundle_ways forms.chosen.bundle)
 
--- what referrers import leads where the import map says: it isn't of `require`
-referrer_leads : (forms : FormsBundle)
-    → referrer_resolves (forms_resolving forms) ≡ bundle_resolves forms.chosen.bundle
-referrer_leads forms = by forms.require_map
-  where
-    by : (o : Option MapData)
-        → resolve_by (resolving_or map_resolve (map_for Referrer forms.chosen.bundle.import_map o))
-        ≡ bundle_resolves forms.chosen.bundle
-    by None = refl
-    by (Some requires) = refl
-
--- a plain builder of a bundle, whatever resolves
+-- a plain builder of a bundle
 pub record IsPlain (bundle : Bundle) (plain : BuildingBy Memory BundleWays) : Type 0 where
-  pub follows : plain.following.following ≡ following_of bundle.options
+  pub ways : plain.following ≡ bundle_ways bundle
   pub roots : plain.roots ≡ bundle.roots
   pub imports : plain.imports ≡ bundle.options.imports
   pub limit : plain.limit ≡ bundle.options.limit
@@ -73,18 +56,17 @@ pub record IsPlain (bundle : Bundle) (plain : BuildingBy Memory BundleWays) : Ty
 
 -- what is polled of a builder that goes by the bundle's choice is the bundle's graph, or it is too large
 module _ (forms : FormsBundle) (plain : BuildingBy Memory BundleWays)
-    (b : BuildingBy Memory FormsWays)
-    (again : b ≡ reread forms.chosen.json_without_attribute (resolver_of forms) (analyzer_of forms) plain)
+    (b : BuildingBy Memory FormsWays) (again : b ≡ reread forms.chosen.json_without_attribute (analyzer_of forms) plain)
     (is : IsPlain forms.chosen.bundle plain) where
   ways : b.following ≡ ways_chosen forms
   ways =
       ap (λ (x : BuildingBy Memory FormsWays). x.following) again
-      ∙ ap (ways_reading forms.chosen.json_without_attribute (resolver_of forms) (analyzer_of forms)) is.follows
+      ∙ ap (ways_reading forms.chosen.json_without_attribute (analyzer_of forms)) is.ways
 
   starting : b.starting ≡ bundle_starts forms.chosen.bundle
   starting =
       ap (λ (x : BuildingBy Memory FormsWays). x.starting) again
-      ∙ ap (λ (r : Resolves). starts_by r plain.roots plain.imports) (referrer_leads forms)
+      ∙ ap (λ (w : BundleWays). starts_by (mapped_resolves w.resolver.map) plain.roots plain.imports) is.ways
       ∙ ap (λ (rs : List Parts). starts_by (bundle_resolves forms.chosen.bundle) rs plain.imports) is.roots
       ∙ ap (starts_by (bundle_resolves forms.chosen.bundle) forms.chosen.bundle.roots) is.imports
 
@@ -103,13 +85,12 @@ module _ (forms : FormsBundle) (plain : BuildingBy Memory BundleWays)
   pub graph_of : (r : Result GraphData BuildError)
       → IfOk r (λ g. IsGraph (rules_in b.following) b.starting (tells b.loader.modules) g.entries)
       → IfOk r (λ g. g.roots ≡ b.roots)
-      → IfOk r (λ g. g.imports ≡ map (referred_by (resolves_of b.following)) b.imports)
+      → IfOk r (λ g. g.imports ≡ map (referred_by (mapped_resolves b.following.resolver.map)) b.imports)
       → IfOk r (λ g. length g.entries ≤ b.limit) → IfOk r (IsGraphOf forms)
   graph_of (Ok g) graph its_roots its_imports within = record {
     roots = its_roots ∙ roots;
     imports = its_imports
-        ∙ ap (λ (w : FormsWays). map (referred_by (resolves_of w)) b.imports) ways
-        ∙ ap (λ (r : Resolves). map (referred_by r) b.imports) (referrer_leads forms)
+        ∙ ap (λ (w : FormsWays). map (referred_by (mapped_resolves w.resolver.map)) b.imports) ways
         ∙ ap (map (referred_by (bundle_resolves forms.chosen.bundle))) imports;
     entries = subst (λ (w : FormsWays). IsGraph (rules_in w) (bundle_starts forms.chosen.bundle)
         (tells forms.chosen.bundle.modules) g.entries) ways

@@ -1,3 +1,2 @@
 pub mod Bundle
-pub mod Resolver
 pub mod Forms

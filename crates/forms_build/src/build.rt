@@ -5,20 +5,18 @@ ghost use Rattle.graph_builder.specs.Graph.{IsGraph};
 ghost use Rattle.graph_builder.specs.Builder.{starts};
 ghost use Rattle.graph_builder.specs.Memory.{tells, data_of};
 ghost use Rattle.graph_run.specs.Run.{bundle_starts};
-ghost use Rattle.graph_run.specs.Steps.{IsFresh, IsNew, IsUnforced, SaysLarge};
-ghost use Rattle.forms_build.specs.Forms.{IsGraphOf, forms_rules, resolves_of, rules_in, unmapped, reread};
+ghost use Rattle.graph_run.specs.Steps.{IsFresh, IsNew, IsUnforced, SaysLarge, mapped_resolves};
+ghost use Rattle.forms_build.specs.Forms.{IsGraphOf, forms_rules, rules_in, reread};
 
 use crate::bundle::FormsBundle;
-use crate::resolver::FormsResolver;
 use deno_graph::{BuildError, CustomBuild, ModuleGraph, UnloggedLoader};
 use forms_analyzer::FormsAnalyzer;
-use graph_bundle::{Bundle, ChosenBundle};
-use graph_run::{BundleBuild, is_not_yet, new_build};
-use import_map::ImportMap;
+use graph_bundle::ChosenBundle;
+use graph_run::{BundleBuild, BundleResolver, is_not_yet, new_build};
 use std::alloc::{AllocError, Global};
 use std::thread::Threads;
 
-type FormsBuild = CustomBuild<UnloggedLoader, FormsResolver, FormsAnalyzer>;
+type FormsBuild = CustomBuild<UnloggedLoader, BundleResolver, FormsAnalyzer>;
 
 /// The graph of a bundle with choices, whose modules are analysed in batches of so many, in threads.
 pub fn build_forms<R: Threads + Sync>(
@@ -37,55 +35,29 @@ pub fn build_forms<R: Threads + Sync>(
         chosen,
         forms,
         all_forms,
-        require_map,
     } = forms;
     let ChosenBundle {
         bundle,
         json_without_attribute,
     } = chosen;
-    let (bundle, map) = without_map(bundle);
     let plain = new_build(alloc, bundle)?;
-    let resolver = FormsResolver { map, require_map };
     let analyzer = FormsAnalyzer { forms, all_forms };
-    let mut build = reading(plain, json_without_attribute, resolver, analyzer)?;
+    let mut build = reading(plain, json_without_attribute, analyzer)?;
     poll_forms(rt, &mut build, batch)
 }
 
-/// The bundle without its import map, and the map.
-fn without_map(bundle: Bundle) -> (Bundle, Option<ImportMap>)
-    ensures bundle { result.0 ≡ unmapped bundle }
-    ensures map { result.1 ≡ bundle.import_map }
-{
-    let Bundle {
-        roots,
-        options,
-        modules,
-        arrival,
-        import_map,
-    } = bundle;
-    let bundle = Bundle {
-        roots,
-        options,
-        modules,
-        arrival,
-        import_map: None,
-    };
-    (bundle, import_map)
-}
-
-/// The same builder, where an import without an attribute may be of JSON, or may not, with this resolver and analyser.
+/// The same builder, where an import without an attribute may be of JSON, or may not, with this analyser.
 fn reading(
     build: BundleBuild,
     is_allowed: bool,
-    resolver: FormsResolver,
     analyzer: FormsAnalyzer,
 ) -> Result<FormsBuild, BuildError>
     requires { IsFresh (data_of build.inner.loader) }
-    ensures again { IfOk result (λ b. b.inner ≡ reread is_allowed resolver analyzer build.inner) }
+    ensures again { IfOk result (λ b. b.inner ≡ reread is_allowed analyzer build.inner) }
     ensures new { IfOk result (λ b. IsNew (data_of b.inner.loader) b.inner) }
     ensures refused { IfErr result (λ e. e ≡ BuildError.OutOfMemory) }
 {
-    match reread(build, is_allowed, resolver, analyzer) {
+    match reread(build, is_allowed, analyzer) {
         Ok(again) => Ok(again),
         Err(_) => Err(BuildError::OutOfMemory),
     }
@@ -94,14 +66,12 @@ fn reading(
 fn reread(
     build: BundleBuild,
     is_allowed: bool,
-    resolver: FormsResolver,
     analyzer: FormsAnalyzer,
 ) -> Result<FormsBuild, AllocError>
-    ensures { IfOk result (λ b. b.inner ≡ reread is_allowed resolver analyzer build.inner) }
+    ensures { IfOk result (λ b. b.inner ≡ reread is_allowed analyzer build.inner) }
 {
     build
         .with_json_without_attribute(is_allowed)?
-        .with_resolver(resolver)?
         .with_analyzer(analyzer)
 }
 
@@ -117,7 +87,7 @@ fn poll_forms<R: Threads + Sync>(
         (tells build.old.inner.loader.modules) graph.entries) }
     ensures roots { IfOk result (λ graph. graph.roots ≡ build.old.inner.roots) }
     ensures imports { IfOk result (λ graph.
-        graph.imports ≡ map (referred_by (resolves_of build.old.inner.following)) build.old.inner.imports) }
+        graph.imports ≡ map (referred_by (mapped_resolves build.old.inner.following.resolver.map)) build.old.inner.imports) }
     ensures within { IfOk result (λ graph. length graph.entries ≤ build.old.inner.limit) }
     ensures large { IfErr result (SaysLarge (rules_in build.old.inner.following) (starts build.old.inner)
         (tells build.old.inner.loader.modules) build.old.inner.limit) }

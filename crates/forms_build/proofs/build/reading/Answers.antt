@@ -4,4 +4,4 @@ use Rattle.forms_build.proofs.build.reading.Goals as goal
 -- nothing happened to its loader yet
 pub returns-in-Ok-clause-new : goal.returns-in-Ok-clause-new
 returns-in-Ok-clause-new c =
-    reread_new c.args.is_allowed c.args.resolver c.args.analyzer c.args.build.inner c.in-Ok.again.inner c.in-Ok.ensures c.requires
+    reread_new c.args.is_allowed c.args.analyzer c.args.build.inner c.in-Ok.again.inner c.in-Ok.ensures c.requires

@@ -1,0 +1,5 @@
+pub mod GroupLemmas
+pub mod PatternLemmas
+pub mod ParamLemmas
+pub mod ListLemmas
+pub mod FunctionLemmas

@@ -1,0 +1,10 @@
+use Rattle.dts_parts.proofs.FunctionLemmas.{signature_there}
+use Rattle.dts_parts.proofs.functions.ruled_signature.Goals as goal
+
+pub returns-in-TypedSignature-clause-written : goal.returns-in-TypedSignature-clause-written
+returns-in-TypedSignature-clause-written c = λ e by knows.
+    let x = c.args.env.now.text.now in
+    let ts = c.args.env.now.tokens.now in
+    signature_there by x ts c.args.out.now c.signature_node.new.out c.args.ruled c.args.it.now c.in-Node.label
+    c.in-Node.is
+    c.in-TypedSignature.is (c.signature_node.ensures.written e by knows)

@@ -1,0 +1,19 @@
+use Rattle.es_syntax.specs.Held.{held, valued}
+use Rattle.std.proofs.Common.{◌∙◌}
+use Rattle.dts_parts.proofs.ParamLemmas.{any_property}
+use Rattle.dts_parts.proofs.params.property_any.Goals as goal
+
+-- opened, written, closed
+pub returns-clause-written : goal.returns-clause-written
+returns-clause-written c = λ e by.
+    let x = c.args.env.now.text.now in
+    let ts = c.args.env.now.tokens.now in
+    let f = c.close_node.ensures.before e in
+    let g = c.any_tail.ensures.before f in
+    let h = c.kept_group.ensures.before g in
+    any_property by x ts c.args.out.now c.open-place.new.self c.kept_group.new.out c.any_tail.new.out
+    c.close_node.new.self _ c.args.from c.args.to c.args.at _ (valued x ts c.args.name.now)
+    (held x ts c.args.mark.now.entries.now) (c.open-place.ensures.written h)
+    (c.open-place.ensures.place h) (c.kept_group.ensures.written g x ts)
+    (c.kept_group.ensures.state ∙ c.open-place.ensures.state) (c.any_tail.ensures.written f by)
+    (c.close_node.ensures.written e) c.close_node.ensures.state
