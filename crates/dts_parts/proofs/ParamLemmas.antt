@@ -49,7 +49,7 @@ use Rattle.dts_draft.specs.Drafts.{state_of}
 use Rattle.dts_draft.specs.Written.{IfThere}
 use Rattle.dts_draft.proofs.There.{lifted, made as made_there}
 use Rattle.dts_parts.specs.Groups.{annotation_in, KeptGroup, Annotated, TypeGroup}
-use Rattle.dts_parts.specs.Params.{param_rule, pat_rule, typed_range, default_param_of, Made, Tailed, TailMade, DefaultTailed, DefaultMade, AnyTailed, AnyMade, MadeOf}
+use Rattle.dts_parts.specs.Params.{param_rule, pat_rule, typed_range, default_param_of, Made, Tailed, TailMade, DefaultTailed, DefaultMade, AnyTailed, AnyMade, MadeOf, Changes, NoName}
 use Rattle.dts_parts.specs.Patterns.{Own, IsOther}
 use Rattle.dts_parts.proofs.PatternLemmas as patterns
 
@@ -156,7 +156,8 @@ module _ (by : Env) where
 
     pub property_made : (pat : Pat) (old begun grouped mid new : Draft) (place from to : ℕ) (row : Value)
         (m : Modifiers)
-        → modifiers_in ts plain row ≡ Some m → rules.is_defaulted_pattern by (out-Pat pat) ≡ false
+        → modifiers_in ts plain row ≡ Some m
+        → (rules.is_property by m && rules.is_defaulted_pattern by (out-Pat pat)) ≡ false
         → begun.row ≡ old.row ++ opened → place ≡ length old.row → KeptGroup x ts begun.row grouped.row row
         → state_of grouped ≡ state_of old → TailMade x ts by grouped mid pat
         → new.row ≡ closed (change.Old (vWhat.Node l.PropertyParameter)) from to place mid.row
@@ -168,7 +169,7 @@ module _ (by : Env) where
         (both_written x ts begun.row grouped.row mid.row (g.value ∷ [])
         (t.tail.name ∷ t.tail.mark ∷ t.tail.ty ∷ nil ∷ []) g.writes t.tail.writes) en)
         (property_reads from to grouped.row mid.row t.after g.value row m t.tail g.is is) sb sn
-        (λ s. undefaulted m (span_of ts from to) pat s d)
+        (λ s. ruled m (span_of ts from to) pat s d)
 
     -- ---- a pattern, its mark and its type
     tail_is : (name k a : Value) (m : Marked) (b : Bool) (own : Option TsPart) (r span : Range)
@@ -400,7 +401,7 @@ module _ (by : Env) where
     -- a property with a default
     pub property_stays : (m : Modifiers) (r span : Range) (name mark ty value v vs : Value) (tr : Range)
         → value ≡ more v vs
-        → rules.is_property by m ≡ true → IfThere Stays (marked_in name)
+        → rules.is_property by m ≡ true → NoName x ts by name
         → IfThere (λ it. (s : State) → param_rule by it s ≡ (it, s))
         (Param_of m r tr span (marked_in name) mark ty value)
     property_stays m r span name mark ty value v vs tr e p h =
@@ -408,7 +409,9 @@ module _ (by : Env) where
         (Param_of m r tr span (marked_in name) mark ty value)) (sym e)
         (go (annotation_in ty) (marked_in name) (expr_in v) h)
       where
-        go : (a : Option (Option TsPart)) (k : Option Marked) (o : Option Expr) → IfThere Stays k
+        go : (a : Option (Option TsPart)) (k : Option Marked) (o : Option Expr)
+            → IfThere (λ (k : Marked). (b : Bool) (a : Option TsPart) (r : Range)
+            → rules.is_name by (out-Pat (k b a r)) ≡ false) k
             → IfThere (λ it. (s : State) → param_rule by it s ≡ (it, s)) (option_map (param_by m r) (given a (λ ty_.
             given (marked_by k (is_there mark) ty_ tr) (λ pat.
             given (option_map Some o) (λ value. Some (with_default span pat value))))))
@@ -420,8 +423,11 @@ module _ (by : Env) where
               stays m r (vPat.Assign (k (is_there mark) a tr) e span) s
               (ap (λ (b : Bool). b && rules.is_defaulted_pattern by
               (out-Pat (vPat.Assign (k (is_there mark) a tr) e span))) p
-              ∙ assign_out (k (is_there mark) a tr) e span false (h.is.1 (is_there mark) a tr));
+              ∙ assign_out (k (is_there mark) a tr) e span false (h.is (is_there mark) a tr));
         }
+
+    pub no_name : (v : Value) → IfThere Stays (marked_in v) → NoName x ts by v
+    no_name v h = lifted (λ k s. s.1) h
 
     pub array_stays : (from : ℕ) (elems v : Value) → marked_in v ≡ marked_view.array ts from elems
         → IfThere Stays (marked_in v)
@@ -463,6 +469,46 @@ module _ (by : Env) where
         (ap (rules.is_name by) (ap out-Pat (sym (vPat.rolls-Ident (type_texts.marked b id) a r))
         ∙ out-roll-Pat (Pat-F.Pat::Ident (type_texts.marked b id) a r)))))
 
+    pub named_changes : (row : Value) (at : ℕ) (v : Value) → marked_in v ≡ marked_view.ident x (slice_get ts at)
+        → Changes x ts by row v
+    named_changes row at v is = go (modifiers_in ts plain row)
+      where
+        go : (o : Option Modifiers)
+            → IfSome o (λ m. IfThere
+            (λ (k : Marked). (b : Bool) (a : Option TsPart) (r : Range) (e : Expr) (span : Range)
+            → (rules.is_property by m && rules.is_defaulted_pattern by (out-Pat (vPat.Assign (k b a r) e span)))
+            ≡ false)
+            (marked_in v))
+        go None = tt
+        go (Some m) =
+            lifted (λ k d b a r e span. ap (λ (c : Bool). rules.is_property by m && c) (d b a r e span)
+            ∙ and_false (rules.is_property by m)) (named_default at v is)
+
+    pub plain_changes : (row v : Value) (b : Bool)
+        → IfSome (modifiers_in ts plain row) (λ m. rules.is_property by m ≡ b)
+        → b ≡ false → Changes x ts by row v
+    plain_changes row v b h none = go (modifiers_in ts plain row) h
+      where
+        each : (m : Modifiers) → rules.is_property by m ≡ b → (o : Option Marked)
+            → IfThere (λ (k : Marked). (b : Bool) (a : Option TsPart) (r : Range) (e : Expr) (span : Range)
+            → (rules.is_property by m && rules.is_defaulted_pattern by (out-Pat (vPat.Assign (k b a r) e span)))
+            ≡ false) o
+        each m is None = record { is = tt }
+        each m is (Some k) = record {
+          is = λ b a r e span.
+              ap (λ (c : Bool). c && rules.is_defaulted_pattern by (out-Pat (vPat.Assign (k b a r) e span)))
+              (is ∙ none);
+        }
+
+        go : (o : Option Modifiers) → IfSome o (λ m. rules.is_property by m ≡ b)
+            → IfSome o (λ m. IfThere
+            (λ (k : Marked). (b : Bool) (a : Option TsPart) (r : Range) (e : Expr) (span : Range)
+            → (rules.is_property by m && rules.is_defaulted_pattern by (out-Pat (vPat.Assign (k b a r) e span)))
+            ≡ false)
+            (marked_in v))
+        go None is = tt
+        go (Some m) is = each m is (marked_in v)
+
     pub named_bare : (at : ℕ) (v : Value) → marked_in v ≡ marked_view.ident x (slice_get ts at)
         → IfThere (λ (k : Marked). (b : Bool) (a : Option TsPart) (r : Range)
         → rules.is_defaulted_pattern by (out-Pat (k b a r)) ≡ false) (marked_in v)
@@ -487,23 +533,24 @@ module _ (by : Env) where
         from to
         eo ep sb (t span) en sn) h) h) h
 
-    pub default_property : (old begun grouped mid new : Draft) (place from to at : ℕ) (row name mark ty : Value)
-        (right : Option Expr) → marked_in name ≡ marked_view.ident x (slice_get ts at) → begun.row ≡ old.row ++ opened
+    pub default_property : (old begun grouped mid new : Draft) (place from to : ℕ) (row name mark ty : Value)
+        (right : Option Expr) → Changes x ts by row name → begun.row ≡ old.row ++ opened
         → place ≡ length old.row → KeptGroup x ts begun.row grouped.row row → state_of grouped ≡ state_of old
         → DefaultTailed x ts by grouped mid name mark ty right
         → new.row ≡ closed (change.Old (vWhat.Node l.PropertyParameter)) from to place mid.row
         → state_of new ≡ state_of mid
         → IfThere (λ m. DefaultMade x ts by old new m (span_of ts from to) name mark ty right)
         (modifiers_in ts plain row)
-    default_property old begun grouped mid new place from to at row name mark ty right same eo ep g sb h en sn =
-        go (modifiers_in ts plain row) refl
+    default_property old begun grouped mid new place from to row name mark ty right changes eo ep g sb h en sn =
+        go (modifiers_in ts plain row) refl changes
       where
         tr : Range
         tr = typed_range ts name mark ty
 
         each : (m : Modifiers) → modifiers_in ts plain row ≡ Some m → (k : Option Marked)
             → IfThere (λ (k : Marked). (b : Bool) (a : Option TsPart) (r : Range) (e : Expr) (span : Range)
-            → rules.is_defaulted_pattern by (out-Pat (vPat.Assign (k b a r) e span)) ≡ false) k
+            → (rules.is_property by m && rules.is_defaulted_pattern by (out-Pat (vPat.Assign (k b a r) e span)))
+            ≡ false) k
             → IfThere (λ k. IfThere (λ a. IfThere (λ e. (span : Range)
             → TailMade x ts by grouped mid (vPat.Assign (k (is_there mark) a tr) e span)) right) (annotation_in ty)) k
             → IfThere (λ k. IfThere (λ a. IfThere (λ e. (span : Range)
@@ -518,9 +565,13 @@ module _ (by : Env) where
         }
 
         go : (o : Option Modifiers) → modifiers_in ts plain row ≡ o
-            → IfThere (λ m. DefaultMade x ts by old new m (span_of ts from to) name mark ty right) o
-        go None is = record { is = tt }
-        go (Some m) is = record { is = each m is (marked_in name) (named_default at name same) h }
+            → IfSome o (λ m. IfThere
+            (λ (k : Marked). (b : Bool) (a : Option TsPart) (r : Range) (e : Expr) (span : Range)
+            → (rules.is_property by m && rules.is_defaulted_pattern by (out-Pat (vPat.Assign (k b a r) e span)))
+            ≡ false)
+            (marked_in name)) → IfThere (λ m. DefaultMade x ts by old new m (span_of ts from to) name mark ty right) o
+        go None is d = record { is = tt }
+        go (Some m) is d = record { is = each m is (marked_in name) d h }
 
     -- ---- nodes of names without a type
     pub any_marked : (old begun mid new : Draft) (place from to at : ℕ) (name mark : Value)
@@ -554,7 +605,8 @@ module _ (by : Env) where
         each m is None d h = record { is = tt }
         each m is (Some k) d h = record {
           is = property_made (k (is_there mark) None tr) old begun grouped mid new place from to row m is
-              (d.is (is_there mark) None tr) eo ep g sb h.is en sn;
+              (ap (λ (c : Bool). rules.is_property by m && c) (d.is (is_there mark) None tr)
+              ∙ and_false (rules.is_property by m)) eo ep g sb h.is en sn;
         }
 
         go : (o : Option Modifiers) → modifiers_in ts plain row ≡ o

@@ -3,7 +3,6 @@ use Rattle.std.specs.Prelude.{ℕ, ◌+◌, Bool, true, false, ◌||◌, List, [
 use Rattle.std.proofs.Common.{◌≡◌, refl, sym, ap, subst, ◌∙◌}
 use Rattle.base.specs.declared.range.Range.{Range}
 use Rattle.es_token.specs.declared.token.Token.{Token}
-use Rattle.es_token.specs.declared.token.TokenKind.{TokenKind}
 use Rattle.es_token.specs.declared.token.TokenKind.TheVariants as k
 use Rattle.grammar_theory.specs.Key.{same_kind}
 use Rattle.es_grammar.specs.declared.rows.NodeKind.{NodeKind}
@@ -127,44 +126,25 @@ or_true false = refl
 
 module _ (by : Env) where
   -- a word more, with what it adds
-  accessed : (p q r ro ov : Bool) (b : Accessibility) (mr mo : Bool)
-      → (rules.is_there by b || (mr || mo)) ≡ true
+  adds : (p q r ro ov : Bool) (b : Accessibility) (mr mo : Bool)
       → (rules.is_there by
       (if p then vAccess.Public else (if q then vAccess.Protected else (if r then vAccess.Private else b)))
-      || ((ro || mr) || (ov || mo))) ≡ true
-  accessed true q r ro ov b mr mo e = refl
-  accessed false true r ro ov b mr mo e = refl
-  accessed false false true ro ov b mr mo e = refl
-  accessed false false false true ov b mr mo e = or_true (rules.is_there by b)
-  accessed false false false false true b true mo e = or_true (rules.is_there by b)
-  accessed false false false false true b false mo e = or_true (rules.is_there by b)
-  accessed false false false false false b mr mo e = e
+      || ((ro || mr) || (ov || mo)))
+      ≡ ((p || (q || (r || (ro || ov)))) || (rules.is_there by b || (mr || mo)))
+  adds true q r ro ov b mr mo = refl
+  adds false true r ro ov b mr mo = refl
+  adds false false true ro ov b mr mo = refl
+  adds false false false true ov b mr mo = or_true (rules.is_there by b)
+  adds false false false false true b true mo = or_true (rules.is_there by b)
+  adds false false false false true b false mo = or_true (rules.is_there by b)
+  adds false false false false false b mr mo = refl
 
-  worded : (p q r ro ov : Bool) (b : Accessibility) (mr mo : Bool) → (p || (q || (r || (ro || ov)))) ≡ true
-      → (rules.is_there by
-      (if p then vAccess.Public else (if q then vAccess.Protected else (if r then vAccess.Private else b)))
-      || ((ro || mr) || (ov || mo))) ≡ true
-  worded true q r ro ov b mr mo e = refl
-  worded false true r ro ov b mr mo e = refl
-  worded false false true ro ov b mr mo e = refl
-  worded false false false true ov b mr mo e = or_true (rules.is_there by b)
-  worded false false false false true b true mo e = or_true (rules.is_there by b)
-  worded false false false false true b false mo e = or_true (rules.is_there by b)
-  worded false false false false false b mr mo e = let bad : ⊥ = cc in absurd bad
-
-  stays_property : (kind : TokenKind) (m : Modifiers) → rules.is_property by m ≡ true
-      → rules.is_property by (with_modifier kind m) ≡ true
+  property_adds : (t : Token) (m : Modifiers)
+      → rules.is_property by (with_modifier t.kind m) ≡ (is_property_word (Some t) || rules.is_property by m)
   unfolding with_modifier access_of
-  stays_property kind m e =
-      accessed (same_kind kind k.PublicWord) (same_kind kind k.ProtectedWord) (same_kind kind k.PrivateWord)
-      (same_kind kind k.ReadonlyWord) (same_kind kind k.OverrideWord) m.accessibility m.readonly m.is_override e
-
-  becomes_property : (t : Token) (m : Modifiers) → is_property_word (Some t) ≡ true
-      → rules.is_property by (with_modifier t.kind m) ≡ true
-  unfolding with_modifier access_of
-  becomes_property t m e =
-      worded (same_kind t.kind k.PublicWord) (same_kind t.kind k.ProtectedWord) (same_kind t.kind k.PrivateWord)
-      (same_kind t.kind k.ReadonlyWord) (same_kind t.kind k.OverrideWord) m.accessibility m.readonly m.is_override e
+  property_adds t m =
+      adds (same_kind t.kind k.PublicWord) (same_kind t.kind k.ProtectedWord) (same_kind t.kind k.PrivateWord)
+      (same_kind t.kind k.ReadonlyWord) (same_kind t.kind k.OverrideWord) m.accessibility m.readonly m.is_override
 
   module _ (ts : List Token) where
     pub properties_none : (row : Value) (b : Bool) → row ≡ nil → Properties by ts b b row
@@ -172,18 +152,14 @@ module _ (by : Env) where
         subst (λ (row : Value). Properties by ts b b row) (sym e) (λ m known. known)
 
     one_more : (o : Option Token) (vs : Value) (before word mid after : Bool) → word ≡ is_property_word o
-        → mid ≡ (word || before) → Properties by ts mid after vs → (m : Modifiers)
-        → (before ≡ true → rules.is_property by m ≡ true)
+        → mid ≡ (word || before) → Properties by ts mid after vs → (m : Modifiers) → rules.is_property by m ≡ before
         → IfSome (given (option_map (λ t. t.kind) o) (λ kind. modifiers_in ts (with_modifier kind m) vs))
-        (λ m. after ≡ true → rules.is_property by m ≡ true)
+        (λ m. rules.is_property by m ≡ after)
     one_more None vs before word mid after w e rest m known = tt
     one_more (Some t) vs before word mid after w e rest m known =
-        rest (with_modifier t.kind m) (λ is. go word before w (sym e ∙ is) known)
-      where
-        go : (word before : Bool) → word ≡ is_property_word (Some t) → (word || before) ≡ true
-            → (before ≡ true → rules.is_property by m ≡ true) → rules.is_property by (with_modifier t.kind m) ≡ true
-        go true before w e known = becomes_property t m (sym w)
-        go false before w e known = stays_property t.kind m (known e)
+        rest (with_modifier t.kind m) (property_adds t m
+        ∙ (ap (λ (a : Bool). a || rules.is_property by m) (sym w)
+        ∙ (ap (λ (b : Bool). word || b) known ∙ sym e)))
 
     pub properties_next : (row v vs : Value) (before word mid after : Bool) → row ≡ more v vs
         → word ≡ is_property_word (token_at ts (as_group v) 0) → mid ≡ (word || before) → Properties by ts mid after vs
@@ -192,14 +168,9 @@ module _ (by : Env) where
         subst (λ (row : Value). Properties by ts before after row) (sym e)
         (one_more (token_at ts (as_group v) 0) vs before word mid after w m rest)
 
-    pub property_of : (row : Value) (b : Bool) → b ≡ true → Properties by ts false b row
-        → IfSome (modifiers_in ts plain row) (λ m. rules.is_property by m ≡ true)
-    property_of row b is h = go (modifiers_in ts plain row) (h plain (λ e. let bad : ⊥ = cc in absurd bad))
-      where
-        go : (o : Option Modifiers) → IfSome o (λ m. b ≡ true → rules.is_property by m ≡ true)
-            → IfSome o (λ m. rules.is_property by m ≡ true)
-        go None h = tt
-        go (Some m) h = h is
+    pub property_of : (row : Value) (b : Bool) → Properties by ts false b row
+        → IfSome (modifiers_in ts plain row) (λ m. rules.is_property by m ≡ b)
+    property_of row b h = h plain refl
 
 -- ---- what the rules make of patterns
 module _ (by : Env) where

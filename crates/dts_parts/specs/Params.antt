@@ -1,11 +1,12 @@
 -- Parameters as declarations have them.
-use Rattle.std.specs.Prelude.{◌≡◌, ℕ, List, [], ◌∷◌, Option, Some, None, option_map, slice_get}
+use Rattle.std.specs.Prelude.{◌≡◌, ℕ, Bool, false, List, [], ◌∷◌, Option, Some, None, option_map, slice_get, IfSome, ◌&&◌}
 use Rattle.base.specs.declared.range.Range.{Range}
 use Rattle.es_token.specs.declared.token.Token.{Token}
+use Rattle.es_ast.specs.declared.ts.ts.TsPart.{TsPart}
 use Rattle.es_ast.specs.declared.ast.Expr.{Expr}
 use Rattle.es_ast.specs.declared.ast.Param.{Param}
 use Rattle.es_ast.specs.declared.leaf.Modifiers.{Modifiers}
-use Rattle.es_ast.specs.declared.ast.Pat.{Pat}
+use Rattle.es_ast.specs.declared.ast.Pat.{Pat, out-Pat}
 use Rattle.es_ast.specs.declared.ast.Pat.TheVariants as vPat
 use Rattle.es_lowering.specs.Value.{Value, given, as_group, first_of, behind, is_there, nil, param_at}
 use Rattle.es_lowering.specs.Texts.{span_of}
@@ -89,6 +90,20 @@ module _ (x : List ℕ) (ts : List Token) where
       IfThere (λ m. IfThere (λ a. IfThere (λ e. (span : Range)
       → MadeOf by old new modifiers r (vPat.Assign (m (is_there mark) a (typed_range ts name mark ty)) e span)) right)
       (annotation_in ty)) (marked_in name)
+
+  -- after these modifiers a pattern with a default changes
+  abbrev pub Changes : rules.Env → Value → Value → Type 0
+  Changes by modifiers name =
+      IfSome (modifiers_in ts plain modifiers) (λ m. IfThere (λ k. (b : Bool) (a : Option TsPart) (r : Range) (e : Expr)
+      (span : Range)
+      → (rules.is_property by m && rules.is_defaulted_pattern by (out-Pat (vPat.Assign (k b a r) e span))) ≡ false)
+      (marked_in name))
+
+  -- a pattern that is no name
+  abbrev pub NoName : rules.Env → Value → Type 0
+  NoName by name =
+      IfThere (λ k. (b : Bool) (a : Option TsPart) (r : Range) → rules.is_name by (out-Pat (k b a r)) ≡ false)
+      (marked_in name)
 
   -- a name, which is this token, without a type and a default
   abbrev pub AnyTailed : rules.Env → Draft → Draft → ℕ → Value → Value → Type 0

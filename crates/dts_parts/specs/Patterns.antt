@@ -1,5 +1,5 @@
 -- Patterns of parameters.
-use Rattle.std.specs.Prelude.{◌≡◌, ℕ, ◌+◌, Bool, true, false, ◌||◌, List, Option, Some, None, option_map, IfSome, slice_get}
+use Rattle.std.specs.Prelude.{◌≡◌, ℕ, ◌+◌, Bool, false, ◌||◌, List, Option, Some, None, option_map, IfSome, slice_get}
 use Rattle.base.specs.declared.range.Range.{Range}
 use Rattle.es_token.specs.declared.token.Token.{Token}
 use Rattle.es_token.specs.declared.token.TokenKind.TheVariants as k
@@ -42,8 +42,8 @@ is_property_word (Some t) =
     || (same_kind t.kind k.ReadonlyWord || same_kind t.kind k.OverrideWord)))
 is_property_word None = false
 
--- modifiers with such a word make it one
+-- whether modifiers make it one
 abbrev pub Properties : rules.Env → List Token → Bool → Bool → Value → Type 0
 Properties by ts before after row =
-    (m : Modifiers) → (before ≡ true → rules.is_property by m ≡ true)
-    → IfSome (modifiers_in ts m row) (λ m. after ≡ true → rules.is_property by m ≡ true)
+    (m : Modifiers) → rules.is_property by m ≡ before
+    → IfSome (modifiers_in ts m row) (λ m. rules.is_property by m ≡ after)

@@ -18,7 +18,7 @@ ghost use Rattle.es_changed.specs.Shape.{Writes};
 ghost use Rattle.dts_draft.specs.Drafts.{state_of};
 ghost use Rattle.dts_draft.specs.Written.{IfThere};
 ghost use Rattle.dts_names.specs.Names.{Knows};
-ghost use Rattle.dts_parts.specs.Params.{param_rule, default_param_of, Made, MadeOf, DefaultTailed, DefaultMade, AnyTailed, AnyMade, TailedParam, PropertyParam};
+ghost use Rattle.dts_parts.specs.Params.{param_rule, default_param_of, Made, MadeOf, DefaultTailed, DefaultMade, AnyTailed, AnyMade, TailedParam, PropertyParam, Changes, NoName};
 ghost use Rattle.dts_parts.specs.Steps.{ParamMade};
 
 use crate::annotations::{any_group, end_in, end_of, kept_group, optional_group, type_group};
@@ -112,14 +112,13 @@ fn marked_default(
     out.close_node(place, NodeKind::MarkedParameter, from, to);
 }
 
-/// The same after modifiers, of a name, which is this token.
+/// The same after modifiers.
 fn property_default(
     out: &mut Draft,
     env: &Env<'_>,
     from: u32,
     to: u32,
     modifiers: &Siblings<'_>,
-    at: u32,
     name: &Item<'_>,
     mark: &Siblings<'_>,
     ty: &Siblings<'_>,
@@ -127,7 +126,7 @@ fn property_default(
 )
     requires { ReadsTokens env.now.text.now env.now.tokens.now }
     ensures before { out.new.failed ≡ false → out.old.failed ≡ false }
-    ensures written { out.new.failed ≡ false → (by : rules.Env) → Knows env.now by → marked_in (valued env.now.text.now env.now.tokens.now name.now) ≡ marked_view.ident env.now.text.now (slice_get env.now.tokens.now at) → IfThere (λ m. DefaultMade env.now.text.now env.now.tokens.now by out.old out.new m (span_of env.now.tokens.now from to) (valued env.now.text.now env.now.tokens.now name.now) (held env.now.text.now env.now.tokens.now mark.now.entries.now) (held env.now.text.now env.now.tokens.now ty.now.entries.now) (expr_in (valued env.now.text.now env.now.tokens.now right.now))) (modifiers_in env.now.tokens.now plain (held env.now.text.now env.now.tokens.now modifiers.now.entries.now)) }
+    ensures written { out.new.failed ≡ false → (by : rules.Env) → Knows env.now by → Changes env.now.text.now env.now.tokens.now by (held env.now.text.now env.now.tokens.now modifiers.now.entries.now) (valued env.now.text.now env.now.tokens.now name.now) → IfThere (λ m. DefaultMade env.now.text.now env.now.tokens.now by out.old out.new m (span_of env.now.tokens.now from to) (valued env.now.text.now env.now.tokens.now name.now) (held env.now.text.now env.now.tokens.now mark.now.entries.now) (held env.now.text.now env.now.tokens.now ty.now.entries.now) (expr_in (valued env.now.text.now env.now.tokens.now right.now))) (modifiers_in env.now.tokens.now plain (held env.now.text.now env.now.tokens.now modifiers.now.entries.now)) }
 {
     let place = out.open();
     kept_group(out, modifiers);
@@ -316,18 +315,26 @@ fn bare_property(
     }
 }
 
-/// A property of the class that is an array or an object with a default: it stays.
-fn kept_property(out: &mut Draft, env: &Env<'_>, it: &Item<'_>, modifiers: &Siblings<'_>)
+/// An array or an object with a default after modifiers: it stays if it is a property of the class.
+fn pattern_property(
+    out: &mut Draft,
+    env: &Env<'_>,
+    it: &Item<'_>,
+    modifiers: &Siblings<'_>,
+    name: &Item<'_>,
+    mark: &Siblings<'_>,
+    ty: &Siblings<'_>,
+    right: &Item<'_>,
+)
+    requires { ReadsTokens env.now.text.now env.now.tokens.now }
     ensures before { out.new.failed ≡ false → out.old.failed ≡ false }
-    ensures state { state_of out.new ≡ state_of out.old }
-    ensures written { out.new.failed ≡ false → (x : List ℕ) (ts : List Tok) → Writes x ts out.old.row out.new.row (valued x ts it.now ∷ []) }
-    ensures property { out.new.failed ≡ false → (x : List ℕ) (by : rules.Env) → IfSome (modifiers_in env.now.tokens.now plain (held x env.now.tokens.now modifiers.now.entries.now)) (λ m. rules.is_property by m ≡ true) }
+    ensures written { out.new.failed ≡ false → (by : rules.Env) → Knows env.now by → NoName env.now.text.now env.now.tokens.now by (valued env.now.text.now env.now.tokens.now name.now) → (span : ARange) (value vs : Value) → value ≡ more (valued env.now.text.now env.now.tokens.now right.now) vs → param_in (valued env.now.text.now env.now.tokens.now it.now) ≡ PropertyParam env.now.text.now env.now.tokens.now (span_of env.now.tokens.now it.now.from it.now.to) span (held env.now.text.now env.now.tokens.now modifiers.now.entries.now) (valued env.now.text.now env.now.tokens.now name.now) (held env.now.text.now env.now.tokens.now mark.now.entries.now) (held env.now.text.now env.now.tokens.now ty.now.entries.now) value → IfThere (Made env.now.text.now env.now.tokens.now param_in (param_rule by) out.old out.new) (param_in (valued env.now.text.now env.now.tokens.now it.now)) }
 {
-    if !is_property(env.tokens, modifiers) {
-        out.fail();
-        return;
+    if is_property(env.tokens, modifiers) {
+        out.keep_there(it);
+    } else {
+        property_default(out, env, it.from, it.to, modifiers, name, mark, ty, right);
     }
-    out.keep_there(it);
 }
 
 /// A property of the class with a default.
@@ -346,11 +353,13 @@ fn defaulted_property(
     ensures written { out.new.failed ≡ false → (by : rules.Env) → Knows env.now by → (span : ARange) (value vs : Value) → value ≡ more (valued env.now.text.now env.now.tokens.now right.now) vs → param_in (valued env.now.text.now env.now.tokens.now it.now) ≡ PropertyParam env.now.text.now env.now.tokens.now (span_of env.now.tokens.now it.now.from it.now.to) span (held env.now.text.now env.now.tokens.now modifiers.now.entries.now) (valued env.now.text.now env.now.tokens.now name.now) (held env.now.text.now env.now.tokens.now mark.now.entries.now) (held env.now.text.now env.now.tokens.now ty.now.entries.now) value → IfThere (Made env.now.text.now env.now.tokens.now param_in (param_rule by) out.old out.new) (param_in (valued env.now.text.now env.now.tokens.now it.now)) }
 {
     match marked_at(name) {
-        Some(Marked::Ident(at)) => property_default(
-            out, env, it.from, it.to, modifiers, at, name, mark, ty, right,
+        Some(Marked::Ident(_)) => property_default(
+            out, env, it.from, it.to, modifiers, name, mark, ty, right,
         ),
-        Some(Marked::Array { from: _, elems: _ }) => kept_property(out, env, it, modifiers),
-        Some(Marked::Object(_)) => kept_property(out, env, it, modifiers),
+        Some(Marked::Array { from: _, elems: _ }) => pattern_property(
+            out, env, it, modifiers, name, mark, ty, right,
+        ),
+        Some(Marked::Object(_)) => pattern_property(out, env, it, modifiers, name, mark, ty, right),
         Some(Marked::Broken) => out.fail(),
         None => out.fail(),
     }

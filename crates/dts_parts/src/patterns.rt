@@ -118,7 +118,7 @@ fn are_properties(tokens: &[Token], modifiers: &Siblings<'_>) -> bool
 /// Whether these modifiers make a parameter a property of its class.
 #[tactic(auto, using(crate::proofs::PatternLemmas::property_of))]
 pub(crate) fn is_property(tokens: &[Token], modifiers: &Siblings<'_>) -> bool
-    ensures { result ≡ true → (x : List ℕ) (by : rules.Env) → IfSome (modifiers_in tokens.now plain (held x tokens.now modifiers.now.entries.now)) (λ m. rules.is_property by m ≡ true) }
+    ensures { (x : List ℕ) (by : rules.Env) → IfSome (modifiers_in tokens.now plain (held x tokens.now modifiers.now.entries.now)) (λ m. rules.is_property by m ≡ result) }
 {
     are_properties(tokens, modifiers)
 }
