@@ -48,7 +48,7 @@ module _ (x : List ℕ) (ts : List Token) where
   }
 
   -- a type in a group
-  typed_group : (old outer inner filled closed_ new : List ChangedEntry) (spot place to : ℕ) (v : Value) (ty : TsType)
+  pub typed_group : (old outer inner filled closed_ new : List ChangedEntry) (spot place to : ℕ) (v : Value) (ty : TsType)
       → outer ≡ old ++ opened → spot ≡ length old → inner ≡ outer ++ opened → place ≡ length outer
       → Writes x ts inner filled (v ∷ []) → ts_type_in v ≡ Some ty
       → closed_ ≡ closed (change.Form form.Annotation) to to place filled

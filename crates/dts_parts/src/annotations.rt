@@ -29,7 +29,7 @@ use es_expr_spans::expr_range;
 use es_syntax::{Item, Siblings, What};
 
 /// The token after a part; none where it is a list.
-pub(crate) fn end_of(it: &Item<'_>) -> Option<u32>
+pub fn end_of(it: &Item<'_>) -> Option<u32>
     ensures { IfSome result (λ n. (x : List ℕ) (ts : List Tok) → behind (valued x ts it.now) ≡ n) }
 {
     match it.what {
@@ -42,7 +42,7 @@ pub(crate) fn end_of(it: &Item<'_>) -> Option<u32>
 }
 
 /// The token after a part that may be absent, or this one.
-pub(crate) fn end_in(row: &Siblings<'_>, before: u32) -> Option<u32>
+pub fn end_in(row: &Siblings<'_>, before: u32) -> Option<u32>
     ensures { IfSome result (λ n. (x : List ℕ) (ts : List Tok) → behind_in (held x ts row.now.entries.now) before ≡ n) }
 {
     match row.split() {
@@ -64,7 +64,7 @@ pub(crate) fn optional_group(out: &mut Draft)
 
 /// A group of the program, as it is.
 #[tactic(auto, using(crate::proofs::GroupLemmas::kept_group))]
-pub(crate) fn kept_group(out: &mut Draft, parts: &Siblings<'_>)
+pub fn kept_group(out: &mut Draft, parts: &Siblings<'_>)
     ensures before { out.new.failed ≡ false → out.old.failed ≡ false }
     ensures state { state_of out.new ≡ state_of out.old }
     ensures written { out.new.failed ≡ false → (x : List ℕ) (ts : List Tok) → KeptGroup x ts out.old.row out.new.row (held x ts parts.now.entries.now) }
@@ -76,7 +76,7 @@ pub(crate) fn kept_group(out: &mut Draft, parts: &Siblings<'_>)
 
 /// `any` after a pattern, which ends at this token.
 #[tactic(auto, using(crate::proofs::GroupLemmas::any_group))]
-pub(crate) fn any_group(out: &mut Draft, to: u32)
+pub fn any_group(out: &mut Draft, to: u32)
     ensures before { out.new.failed ≡ false → out.old.failed ≡ false }
     ensures state { state_of out.new ≡ state_of out.old }
     ensures written { out.new.failed ≡ false → (x : List ℕ) (ts : List Tok) → Annotated x ts out.old.row out.new.row to any_type }

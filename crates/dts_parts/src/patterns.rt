@@ -56,7 +56,7 @@ fn own_node(it: &Item<'_>, label: NodeKind) -> bool
 }
 
 /// Whether a node is a name, an array or an object, over the tokens that it spans.
-pub(crate) fn own_pattern(it: &Item<'_>) -> bool
+pub fn own_pattern(it: &Item<'_>) -> bool
     ensures { result ≡ true → (x : List ℕ) (ts : List Tok) → Own x ts it.now }
 {
     match it.what {

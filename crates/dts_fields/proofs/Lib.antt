@@ -1,0 +1,2 @@
+pub mod ModifierLemmas
+pub mod FieldLemmas

@@ -1,0 +1,18 @@
+-- What is left leads to all.
+use Rattle.std.proofs.Common.{◌≡◌, length, false}
+use Rattle.es_syntax.specs.Held.{held}
+use Rattle.dts_rules.specs.Rules as rules
+use Rattle.dts_names.specs.Names.{Knows}
+use Rattle.dts_members.specs.Overloads.{Overloads}
+use Rattle.dts_members.proofs.TurnLemmas.{MembersLeft}
+use Rattle.dts_members.proofs.classes.all_members.Given as goal
+
+abbrev pub invariant-loop-turn : goal.invariant-loop-turn
+invariant-loop-turn l =
+    (l.out.failed ≡ false → l.initial.out.failed ≡ false)
+    × (l.out.failed ≡ false → (by : rules.Env) → Knows l.env by → Overloads l.ranges by
+    → MembersLeft by l.env.text.now l.env.tokens.now l.initial.out l.out
+    (held l.env.text.now l.env.tokens.now l.all.entries.now) (held l.env.text.now l.env.tokens.now l.row.entries.now))
+
+abbrev pub decreases-loop-turn : goal.decreases-loop-turn
+decreases-loop-turn l = length l.row.entries.now

@@ -1,0 +1,14 @@
+-- The bodies that are left are those of all.
+use Rattle.std.proofs.Common.{length}
+use Rattle.es_syntax.specs.Held.{held}
+use Rattle.dts_overloads.specs.Heads.{heads_of}
+use Rattle.dts_overloads.proofs.ListLemmas.{BodiesLeft}
+use Rattle.dts_overloads.proofs.lists.add_list.Given as goal
+
+abbrev pub invariant-loop-turn : goal.invariant-loop-turn
+invariant-loop-turn l =
+    BodiesLeft l.kind (heads_of l.before) l.initial.found l.found (held l.text l.tokens l.list.entries.now)
+    (held l.text l.tokens l.row.entries.now)
+
+abbrev pub decreases-loop-turn : goal.decreases-loop-turn
+decreases-loop-turn l = length l.row.entries.now

@@ -1,0 +1,5 @@
+pub mod TypeLemmas
+pub mod RuleLemmas
+pub mod NameLemmas
+pub mod DeclaratorLemmas
+pub mod ListLemmas

@@ -1,0 +1,6 @@
+-- declarators
+pub mod Declarators
+-- what is written, by whatever the rules go
+pub mod Steps
+-- variables
+pub mod Variables
