@@ -188,6 +188,30 @@ typedef struct joravelsu_mentions_answer {
     size_t place;       /* where the fault is, else 0 */
 } joravelsu_mentions_answer;
 
+/* What couldn't be determined for declarations. */
+enum {
+    JORAVELSU_NO_INFERRED_TYPE = 0, /* an element of an array is any; a pattern has no type; an exported using is dropped */
+    JORAVELSU_ANY_TYPE = 1,         /* a variable, a parameter or the value of a property is any */
+    JORAVELSU_DROPPED_PROPERTY = 2, /* a property of an object is dropped */
+    JORAVELSU_UNTYPED_SPREAD = 3,   /* a spread in an object is dropped; an array with this one has no type */
+    JORAVELSU_DROPPED_USING = 4     /* an exported using is dropped */
+};
+
+/* What couldn't be determined: its bytes in the text. */
+typedef struct joravelsu_diagnostic {
+    uint32_t kind;      /* JORAVELSU_NO_INFERRED_TYPE or another of its list */
+    size_t start;
+    size_t end;
+} joravelsu_diagnostic;
+
+/* What joravelsu_declarations answers beside its buffers. */
+typedef struct joravelsu_declarations_answer {
+    size_t diagnostics; /* how many there are: what the buffer for diagnostics must hold */
+    size_t text_bytes;  /* how many bytes the declarations have: what the other buffer must hold */
+    uint32_t fault;     /* the lexical fault at JORAVELSU_LEXICAL_FAULT, else 0 */
+    size_t place;       /* where the fault is, else 0 */
+} joravelsu_declarations_answer;
+
 /* A new specifier for a site. */
 typedef struct joravelsu_change {
     size_t site;        /* its number, from 0, in the order of joravelsu_sites */
@@ -404,6 +428,22 @@ uint32_t joravelsu_mentions(const uint8_t *text, size_t text_length, uint32_t me
 uint32_t joravelsu_rewrite(const uint8_t *text, size_t text_length, uint32_t media_type, const joravelsu_change *changes,
                            size_t changes_length, const uint8_t *values, size_t values_length, uint8_t *buffer,
                            size_t buffer_length, joravelsu_rewrite_answer *answer);
+
+/* The declarations of a source text: what a .d.ts of it says, as docs/DECLARATIONS.md describes it. No type is checked, and no other
+ * text is read: what has no type of its own in the text is any, or is dropped, and is reported.
+ *
+ * text, text_length, media_type: as for joravelsu_sites.
+ * comments: 0 to leave out comments; another number for those before the items that stay.
+ * diagnostics, diagnostics_length: a record for each type that couldn't be determined, in the order in which this was found; the
+ *   length counts records.
+ * buffer, buffer_length: where the declarations are written, in UTF-8, not ended by a 0.
+ * answer: always written; where a buffer is too small, it says what both must hold.
+ *
+ * Answers JORAVELSU_DONE, or why nothing was written into the buffers: as joravelsu_sites, in its order.
+ */
+uint32_t joravelsu_declarations(const uint8_t *text, size_t text_length, uint32_t media_type, uint32_t comments,
+                                joravelsu_diagnostic *diagnostics, size_t diagnostics_length, uint8_t *buffer,
+                                size_t buffer_length, joravelsu_declarations_answer *answer);
 
 /* The names that a source text exports, and the modules whose names it re-exports.
  *

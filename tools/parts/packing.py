@@ -23,9 +23,9 @@ Lead.__doc__ = """Where a specifier leads. place: a file of the folder. url: wha
 no part of the sources. reason: why it leads nowhere. note: what is told of it all the same."""
 
 
-Led = collections.namedtuple("Led", "key target files said", defaults=(None, None, (), None))
+Led = collections.namedtuple("Led", "key target files said leads", defaults=(None, None, (), None, True))
 Led.__doc__ = """What follows of a site for each file of a folder that has it. key, target: a row of the import map. files: those to which the
-graph leads. said: the lead, if something is to be said of it."""
+graph leads. said: the lead, if something is to be said of it. leads: whether it leads somewhere."""
 
 
 @functools.lru_cache(sites.MOST_NAMES)
@@ -255,7 +255,9 @@ class Packer:
         self.taken = set()  # the files of the bundle
         self.of_data = set()  # the data: URLs that were walked
         self.led = {}  # what follows of sites, by folders and ways
-        self.maps = collections.defaultdict(dict)  # of a specifier, or a URL that is no file's: its URL by the file that names it
+        # Of a specifier, or a URL that is no file's: its URL by the file that names it, by a call of require, and otherwise.
+        self.maps, self.requires = collections.defaultdict(dict), collections.defaultdict(dict)
+        self.unled = {True: set(), False: set()}  # the files and texts that lead nowhere, by a call of require, and otherwise
         self.beside = collections.defaultdict(dict)  # of a file: what its addresses without ./ lead to
         self.twofold = {}  # of a file and a text: two URLs to which it leads there, by two forms
         self.redirects = {}
@@ -353,6 +355,8 @@ class Packer:
                 led = self.led[at, site] = self.led_by(place, site)
             if led.key is not None:
                 self.put(place, site, led.key, led.target)
+            elif not led.leads:
+                self.unled[site.kind in sites.CALLS].add((place, site.value))
             if led.said:
                 self.say_of(place, site, led.said)
             found += led.files
@@ -363,9 +367,10 @@ class Packer:
         lead = self.lead(place, site)
         key, target = self.row_of(place, site, lead)
         files = list(self.named_by_data(place, site.value)) if site.value.startswith("data:") else []
+        leads = bool(lead.place or lead.url or lead.external)
         if not sites.is_followed(self.asked.kind, place, site):
-            return Led(key, target, files)
-        return Led(key, target, [*files, *self.files_of(place, lead)], lead if lead.reason or lead.note else None)
+            return Led(key, target, files, None, leads)
+        return Led(key, target, [*files, *self.files_of(place, lead)], lead if lead.reason or lead.note else None, leads)
 
     def say_of(self, place, site, lead):
         if lead.reason:
@@ -417,7 +422,7 @@ class Packer:
                     lead = self.resolver.lead("", site)
                     key, target = self.row_of(place, site, lead)
                     if key is not None:
-                        self.maps[key][place] = target
+                        self.rows_of(site)[key][place] = target
                     yield from self.files_of("", lead)
 
     # ---- what the program is told of a specifier
@@ -447,10 +452,14 @@ class Packer:
         if is_beside(site) and self.resolver.lead(place, site._replace(value="./" + site.value)).place:
             self.beside[place][key] = target
             return
-        known = self.maps[key].setdefault(place, target)
+        rows = self.rows_of(site)
+        known = rows[key].setdefault(place, target)
         if known != target:
             self.twofold[place, site.value] = known, target
-            self.maps[key][place] = target
+            rows[key][place] = target
+
+    def rows_of(self, site):
+        return self.requires if site.kind in sites.CALLS else self.maps
 
     def leads_nowhere(self, place, site, lead):
         value = site.value
@@ -468,10 +477,28 @@ class Packer:
         elif lead.reason in resolve.NO_FILE.values():
             self.left_out[f"{place}: {value}"] = lead.reason
 
-    def import_map(self):
-        """What stands in the import map: what most files mean, and for each folder, or file, that means something else that."""
+    def has_two_maps(self):
+        """Whether one text of one file leads elsewhere by a call of require than by another form."""
+        requires, others = self.requires, self.maps
+        if any(others[key].get(place, url) != url for key in requires.keys() & others.keys() for place, url in requires[key].items()):
+            return True
+        return any(place in rows.get(value, ()) for rows, unled in ((others, self.unled[True]), (requires, self.unled[False])) for place, value in unled)
+
+    def import_maps(self):
+        """The import maps of the bundle, by their keys: one of calls of require too, where one map can't say both."""
+        requires, others = self.requires, self.maps
+        if self.has_two_maps():
+            found = {"importMap": self.import_map(others, self.beside), "requireMap": self.import_map(requires, {})}
+        else:
+            both = {key: {**others.get(key, {}), **requires.get(key, {})} for key in {**others, **requires}}
+            found = {"importMap": self.import_map(both, self.beside)}
+        return {key: {"base": "file:///", "map": rows} for key, rows in found.items() if key == "requireMap" or rows["imports"] or "scopes" in rows}
+
+    @staticmethod
+    def import_map(maps, beside):
+        """What stands in an import map: what most files mean, and for each folder, or file, that means something else that."""
         imports, scopes = {}, {}
-        for key, meanings in sorted(self.maps.items()):
+        for key, meanings in sorted(maps.items()):
             found = set(meanings.values())
             if len(found) == 1:
                 if key not in found:
@@ -489,7 +516,7 @@ class Packer:
                 for place, own in sorted(by_folder[folder].items()):
                     if own != url:
                         scopes.setdefault(urls.of_file(place), {})[key] = own
-        for place, rows in sorted(self.beside.items()):
+        for place, rows in sorted(beside.items()):
             scopes.setdefault(urls.of_file(place), {}).update(rows)
         return {"imports": imports, **({"scopes": scopes} if scopes else {})}
 
@@ -518,10 +545,7 @@ class Packer:
         if self.types:
             value["imports"] = [{"referrer": urls.of_file(code), "imports": ["./" + urls.of_file(types).rpartition("/")[2]]}
                                 for code, types in sorted(self.types.items())]
-        rows = self.import_map()
-        if rows["imports"] or "scopes" in rows:
-            value["importMap"] = {"base": "file:///", "map": rows}
-        return value
+        return {**value, **self.import_maps()}
 
     def bundle(self, roots):
         modules = self.modules()

@@ -11,8 +11,10 @@ SOURCES = (".ts", ".mts", ".cts", ".tsx", ".js", ".mjs", ".cjs", ".jsx")
 TYPESCRIPT = (".ts", ".mts", ".cts", ".tsx")
 # The keys of a bundle that choose further forms, and the options that they stand for.
 FORMS = {"commonJs": "commonjs", "typeImports": "type_imports", "workers": "workers", "addresses": "addresses"}
-# The kinds of a call of require, and those whose text is a URL from where it stands, also without ./
-REQUIRES = ("require", "require-resolve", "import-equals", "import-equals-type")
+# The kinds of a call of require, those that lead where such a call does, and those whose text is a URL from where it stands, also
+# without ./
+CALLS = ("require", "require-resolve")
+REQUIRES = (*CALLS, "import-equals", "import-equals-type")
 ADDRESSES = ("worker", "address")
 # The kinds of edges that no graph follows, and those that lead to no types.
 PLACES = ("require-resolve", "address")

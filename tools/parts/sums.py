@@ -62,7 +62,7 @@ def sum_anew(crate):
     listed = kits.listed_crates()
     with open(os.path.join(kits.kit(), "KIT-ID"), "rb") as file:
         found.update(file.read())
-    found.update(repr((unproved.HOW, unproved.COMPILER, unproved.CALLS if crate == LIBRARY else "")).encode())
+    found.update(repr((unproved.HOW, unproved.COMPILER, {LIBRARY: unproved.CALLS, SECOND: unproved.IS_SECOND}.get(crate, ""))).encode())
     for name in sorted(kits.crates_below(crate, listed)):
         found.update(repr((name, listed[name])).encode())
         for path in kits.sources_of(name):

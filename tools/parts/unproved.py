@@ -259,6 +259,8 @@ fn call_each(rt: &HostRuntime) {
     let _ = joravelsu_exports(rt.alloc(), b"", 3, 0, &mut [], &mut [], &mut exported);
     let mut mentioned = MentionsAnswer { mentions: 0, fault: 0, place: 0 };
     let _ = joravelsu_mentions(rt.alloc(), b"", 3, b"", 0, &mut [], &mut mentioned);
+    let mut declared = DeclarationsAnswer { diagnostics: 0, text_bytes: 0, fault: 0, place: 0 };
+    let _ = joravelsu_declarations(rt.alloc(), b"", 3, 0, &mut [], &mut [], &mut declared);
     let mut held = graph::nothing();
     let mut wanted = Wanted { number: 0, needed: 0 };
     let mut entry = graph_session::no_entry();
@@ -293,11 +295,12 @@ def with_calls(main):
 CALL = re.compile(r"(?m)^    let status = (.*);$")
 IS_SECOND = f"""    let words: Result<Vec<String>, AllocError> = match env::args(&rt) {{
         Ok(words) => words.collect(rt.alloc()),
+        Err(error) if error.kind() == ErrorKind::OutOfMemory => Err(AllocError),
         Err(_) => Ok(Vec::new(rt.alloc())),
     }};
     let is_second = match words {{
         Ok(words) => words.len() > 0 && words[0].as_str().ends_with("{SECOND}"),
-        Err(_) => false,
+        Err(_) => return ExitCode::from(Status::NoMemory.code()),
     }};
 """
 

@@ -121,8 +121,40 @@ class FurtherForms(Project):
         self.put({**self.FILES, "joravelsu.json": {"workers": True, "typeImports": True, "addresses": False}})
         self.assertEqual(self.edges()[1], ["a.ts", "t.ts", "w.ts"])
 
-    def test_a_text_that_leads_to_two_files_is_told(self):
+    def packed(self, *words):
+        done = subprocess.run([os.path.join(TOOLS, "pack"), "--packages", *words[:-1], ".", words[-1]], stdout=subprocess.PIPE, cwd=self.room, check=True)
+        return json.loads(done.stdout)
+
+    DUAL = ("dynamic dual node_modules/dual/i.mjs", "require dual node_modules/dual/r.cjs")
+
+    def test_a_text_leads_to_two_files_by_two_forms(self):
+        for text in ('import("dual"); require("dual");', 'require("dual"); import("dual");'):
+            self.put({**self.FILES, "a.ts": text})
+            self.assertEqual(self.edges("--commonjs"), ([*self.DUAL], ["a.ts", "node_modules/dual/i.mjs", "node_modules/dual/r.cjs"]))
+            self.assertNotIn("by one form", self.ran("graph", "--commonjs", "a.ts")[2])
+
+    def test_a_call_leads_nowhere_where_an_import_leads_somewhere(self):
+        for only, found in (("import", [self.DUAL[0], "require dual "]), ("require", ["dynamic dual ", self.DUAL[1]])):
+            self.put({**self.FILES, "a.ts": 'import("dual"); require("dual");', "node_modules/dual/package.json": {"exports": {only: "./i.mjs" if only == "import" else "./r.cjs"}}})
+            self.assertEqual(self.edges("--commonjs")[0], found)
+
+    def test_the_maps_of_a_bundle(self):
+        self.put({**self.FILES, "a.ts": 'import("dual"); require("dual"); require.resolve("dual");', "b.ts": 'import "./a.ts"; require("./t");'})
+        bundle = self.packed("--commonjs", "a.ts")
+        self.assertEqual(bundle["importMap"]["map"], {"imports": {"dual": "file:///node_modules/dual/i.mjs"}})
+        self.assertEqual(bundle["requireMap"]["map"], {"imports": {"dual": "file:///node_modules/dual/r.cjs"}})
+        self.put({**self.FILES, "a.ts": 'import "./t"; require("dual");'})
+        self.assertNotIn("requireMap", self.packed("--commonjs", "a.ts"))
+        self.assertEqual(len(self.packed("--commonjs", "a.ts")["importMap"]["map"]["imports"]), 2)
+
+    def test_two_files_of_one_text_are_vendored(self):
         self.put({**self.FILES, "a.ts": 'import("dual"); require("dual");'})
+        self.assertEqual(self.ran("vendor", "--commonjs", "-o", "out", "a.ts")[0], 0)
+        with open(os.path.join(self.room, "out", "a.ts"), encoding="utf-8") as file:
+            self.assertEqual(file.read(), 'import("./node_modules/dual/i.mjs"); require("./node_modules/dual/r.cjs");')
+
+    def test_an_equals_import_of_two_files_is_told(self):
+        self.put({**self.FILES, "a.ts": 'import("dual"); import a = require("dual");'})
         told = self.ran("graph", "--commonjs", "a.ts")[2]
         self.assertIn('"dual" in a.ts is file:///node_modules/dual/i.mjs by one form and file:///node_modules/dual/r.cjs by another: the graph has the latter\n', told)
 

@@ -444,7 +444,7 @@ class Usage(unittest.TestCase):
             self.assertRegex(done.stdout, rf"^{re.escape(os.path.basename(words[0]))} {re.escape(kit.VERSION)} \(.*program.*\)\n$")
 
     def test_each_command_has_help(self):
-        for name in ("check", "graph", "unread", "why", "vendor", "imports", "diff", "mentions", "order", "man", "completions"):
+        for name in ("check", "graph", "unread", "why", "vendor", "imports", "dts", "diff", "mentions", "order", "man", "completions"):
             status, out, errors = ran(name, "--help")
             self.assertEqual((status, errors), (0, ""), name)
             self.assertIn(f"usage: joravelsu {name} ", out)
@@ -453,7 +453,7 @@ class Usage(unittest.TestCase):
         status, out, _ = ran("man")
         self.assertEqual(status, 0)
         self.assertTrue(out.startswith(".TH JORAVELSU 1 "))
-        for name in ("CHECK", "GRAPH", "UNREAD", "MENTIONS", "ORDER", "IMPORTS", "DIFF"):
+        for name in ("CHECK", "GRAPH", "UNREAD", "MENTIONS", "ORDER", "IMPORTS", "DTS", "DIFF"):
             self.assertIn(f".SH {name}\n", out)
         self.assertIn("\\fB\\-\\-fail\\-on\\fR \\fIWORD,..\\fR\n", out)
         if shutil.which("mandoc") or shutil.which("groff"):
@@ -462,7 +462,7 @@ class Usage(unittest.TestCase):
 
     def test_bash_completes(self):
         script = ran("completions", "bash")[1]
-        rows = [("chec", ["check"]), ("check --fail", ["--fail-on"]), ("imports --a", ["--as"]), ("graph --sv", ["--svg"])]
+        rows = [("chec", ["check"]), ("check --fail", ["--fail-on"]), ("imports --a", ["--as"]), ("dts --no", ["--no-comments"]), ("graph --sv", ["--svg"])]
         for line, wanted in rows:
             words = ["joravelsu", *line.split(" ")]
             asked = f"{script}\nCOMP_WORDS=({' '.join(words)}); COMP_CWORD={len(words) - 1}; _joravelsu; echo \"${{COMPREPLY[@]}}\""

@@ -5,7 +5,7 @@ ghost use Rattle.es_lexer.specs.Reads.{ReadsTokens};
 ghost use Rattle.es_ast.specs.declared.ast.Program.{Program as Typed};
 ghost use Rattle.es_lowering.specs.derives.Derives.{Derives};
 ghost use Rattle.es_parser.specs.Answers.{GivesTree, IsOwn};
-ghost use Rattle.source_reading.specs.Tree.{IsFirstTree, IsTree};
+ghost use Rattle.source_reading.specs.Tree.{IsFirstTree, IsTree, language_of as the_language};
 ghost use Rattle.source_sites.specs.Modes.{modes_in};
 
 use crate::decls::{has_decl, looks_like_module};
@@ -27,6 +27,8 @@ pub fn tree_of(
 ) -> Result<Program, SyntaxError>
     requires { ReadsTokens text.now tokens.now }
     ensures made { IfOk result (λ p. IsTree media_type text.now tokens.now p.typed) }
+    // It is that of this text and these tokens.
+    ensures own { IfOk result (IsOwn (the_language media_type) text.now tokens.now) }
     ensures only { (tree : Typed) → IsTree media_type text.now tokens.now tree → GivesTree result tree }
 {
     let lang = language_of(media_type);

@@ -36,7 +36,8 @@ tree_of x u ts us es env made draft row p is h eu es' er =
 
 pub state_of_all : (x : List ℕ) (ts : List Token) (es : List Entry) (env : Env) (made : ℕ) (draft : Draft) (p : Program)
     (f : List Found) (n : ℕ) → program_at x ts es ≡ Some p
-    → IfThere (DraftIs x ts env made draft) (program_in (part (held x ts es) 0)) → f ≡ draft.found.items → n ≡ draft.made
+    → IfThere (DraftIs x ts env made draft) (program_in (part (held x ts es) 0)) → f ≡ draft.found.items
+    → n ≡ draft.made
     → state_after f n ≡ (declared env p (state_after [] made)).1
 unfolding program_at
 state_of_all x ts es env made draft p f n is h ef en =
@@ -58,9 +59,12 @@ pub tree_answered : (r : Result Declared AllocError) (x : List ℕ) (ts : List T
     → copied ≡ it → x ≡ it.text → ts ≡ it.tokens → program_at x ts es ≡ Some it.typed
     → (draft.failed ≡ false → Drafted x ts ids ranges unresolved made draft (program_in (part (held x ts es) 0)))
     → IfOk r (λ d. (number : Numbers) → Numbered it.tokens ids number
-    → declarations_in d.declarations ≡ Some (declared (env_with number unresolved ranges) it.typed (state_after [] made)).0)
-tree_answered (Err e) x ts es ids unresolved made ranges draft copied it failed row text tokens same xs tss typed drafted = tt
-tree_answered (Ok d) x ts es ids unresolved made ranges draft copied it failed row text tokens same xs tss typed drafted =
+    → declarations_in d.declarations
+    ≡ Some (declared (env_with number unresolved ranges) it.typed (state_after [] made)).0)
+tree_answered (Err e) x ts es ids unresolved made ranges draft copied it failed row text tokens same xs tss typed
+    drafted = tt
+tree_answered (Ok d) x ts es ids unresolved made ranges draft copied it failed row text tokens same xs tss typed
+    drafted =
     λ number n.
     tree_of x d.declarations.text ts d.declarations.tokens es (env_with number unresolved ranges) made draft
     d.declarations.entries it.typed typed

@@ -16,4 +16,5 @@ pub of_program : (x : List ℕ) (ts : List Token) (es : List Entry) (found : Lis
     → (r : Range) → has_range found r ≡ has_range (overloads p) r
 unfolding program_at
 of_program x ts es found p is has =
-    subst (λ (o : Option Program). IfSome o (λ q. (r : Range) → has_range found r ≡ has_range (overloads q) r)) is has.has
+    subst (λ (o : Option Program). IfSome o (λ q. (r : Range) → has_range found r ≡ has_range (overloads q) r)) is
+    has.has

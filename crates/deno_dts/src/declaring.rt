@@ -50,7 +50,7 @@ pub fn declare(
         text,
         tokens,
         numbers,
-        ranges.as_slice(),
+        ranges.set(),
         unresolved,
         made,
         &row,

@@ -2,7 +2,7 @@
 
 ghost use Rattle.std.specs.Prelude.{◌≡◌, IfOk};
 ghost use Rattle.url.specs.Parts.{serialize};
-ghost use Rattle.deno_dts.specs.Diagnostics.{found_of, range_of};
+ghost use Rattle.deno_dts.specs.Diagnostics.{diagnostic, found_of, range_of};
 
 use base::Range;
 use dts_rules::{Found, FoundKind};
@@ -80,6 +80,7 @@ pub enum FastCheckDtsDiagnostic {
 impl FastCheckDtsDiagnostic {
     /// The diagnostic of this kind.
     pub fn new(kind: FoundKind, range: FastCheckDiagnosticRange) -> FastCheckDtsDiagnostic
+        ensures diagnostic { result ≡ diagnostic kind range }
         ensures found { found_of result ≡ record { kind = kind; range = range.range } }
         ensures range { range_of result ≡ range }
     {

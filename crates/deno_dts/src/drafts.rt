@@ -7,9 +7,9 @@ ghost use Rattle.es_syntax.specs.Held.{held};
 ghost use Rattle.es_syntax.specs.Roles.{program_in};
 ghost use Rattle.deno_dts.specs.Drafted.{Drafted, DraftedWith, HasSets};
 
-use base::Range;
 use dts_draft::Draft;
 use dts_items::declared_program;
+use dts_members::RangeSet;
 use dts_module_sets::module_sets;
 use dts_names::Env;
 use dts_sets::Known;
@@ -22,7 +22,7 @@ use std::alloc::{AllocError, Global};
 fn drafted_with(
     alloc: Global,
     env: &Env<'_>,
-    ranges: &[Range],
+    ranges: &RangeSet,
     made: u32,
     row: &Siblings<'_>,
 ) -> Draft
@@ -64,7 +64,7 @@ pub(crate) fn drafted(
     text: &str,
     tokens: &[Token],
     numbers: &ScopeIds,
-    ranges: &[Range],
+    ranges: &RangeSet,
     unresolved: u32,
     made: u32,
     row: &Siblings<'_>,

@@ -6,7 +6,7 @@ ghost use Rattle.dts_rules.specs.Ranges as rules;
 ghost use Rattle.dts_rules.specs.Ranges.{has_range};
 
 use base::Range;
-use dts_members::is_listed;
+use dts_members::{RangeSet, is_listed};
 use dts_overloads::overloads;
 use es_program::Program;
 use std::alloc::{AllocError, Global};
@@ -15,24 +15,26 @@ use std::marker::Model;
 /// The ranges of functions, methods and constructors that implement overloads, in bytes of a text.
 #[derive(Debug, Drop)]
 pub struct ModulePublicRanges {
-    ranges: Vec<Range>,
+    ranges: RangeSet,
 }
 
 impl Model for ModulePublicRanges {
     ghost use Rattle.std.specs.Prelude.{List};
-    ghost use Rattle.std.specs.Coded.{coded_list};
     ghost use Rattle.base.specs.declared.range.Range.{Range};
 
     ghost Value = { List Range };
 
-    ghost view = { λ it. it.ranges.items };
+    ghost view = { λ it. it.ranges };
 }
 
 impl ModulePublicRanges {
-    pub fn new(ranges: Vec<Range>) -> ModulePublicRanges
-        ensures { result ≡ ranges.items }
+    /// Of these ranges.
+    pub fn new(alloc: Global, ranges: &[Range]) -> Result<ModulePublicRanges, AllocError>
+        ensures { IfOk result (λ it. (r : ARange) → has_range it r ≡ has_range ranges.now r) }
     {
-        ModulePublicRanges { ranges }
+        Ok(ModulePublicRanges {
+            ranges: RangeSet::of(alloc, ranges)?,
+        })
     }
 
     /// The ranges of a program: of each function, method or constructor with a body that directly follows one of its name
@@ -41,7 +43,8 @@ impl ModulePublicRanges {
         ensures { IfOk result (λ it. (r : ARange) → has_range it r ≡ has_range (rules.overloads program.now.typed) r) }
     {
         let (text, tokens, row) = program.parts();
-        let ranges = overloads(alloc, text, tokens, &row)?.into_vec();
+        let found = overloads(alloc, text, tokens, &row)?;
+        let ranges = RangeSet::of(alloc, found.as_slice())?;
         Ok(ModulePublicRanges { ranges })
     }
 
@@ -49,13 +52,13 @@ impl ModulePublicRanges {
     pub fn is_impl_with_overloads(&self, range: &Range) -> bool
         ensures { result ≡ has_range self.now range.now }
     {
-        is_listed(self.ranges.as_slice(), *range)
+        is_listed(&self.ranges, *range)
     }
 
     /// The ranges.
-    pub fn as_slice(&self) -> &[Range]
+    pub fn set(&self) -> &RangeSet
         ensures { result.now ≡ self.now }
     {
-        self.ranges.as_slice()
+        &self.ranges
     }
 }

@@ -5,7 +5,9 @@ ghost use Rattle.dts_rules.specs.Programs.{declared};
 ghost use Rattle.dts_sets.specs.Ids.{Numbered};
 ghost use Rattle.dts_rules.specs.Sets.{Numbers};
 ghost use Rattle.deno_dts.specs.Declarations.{declarations_in};
-ghost use Rattle.deno_dts.specs.Transformed.{Begins, env_of, found_in, state_in};
+ghost use Rattle.deno_dts.specs.Diagnostics.{diagnostic_of};
+ghost use Rattle.deno_dts.specs.Transformed.{Begins, diagnosed, diagnostics_with, env_of, state_in};
+ghost use Rattle.url.specs.Parts.{serialize};
 
 use crate::declarations::Declarations;
 use crate::declaring::{Declared, declare};
@@ -44,6 +46,7 @@ impl<'a> FastCheckDtsTransformer<'a> {
         ensures diagnostics { result.diagnostics.items ≡ [] }
         ensures made { result.made ≡ 0 }
         ensures ranges { result.public_ranges.now ≡ public_ranges.entry.now }
+        ensures specifier { result.specifier.now ≡ specifier.entry.now }
         ensures unresolved { result.unresolved_context ≡ unresolved_context }
     {
         FastCheckDtsTransformer {
@@ -57,7 +60,8 @@ impl<'a> FastCheckDtsTransformer<'a> {
     }
 
     /// The declarations of a program, whose names have these numbers. What couldn't be determined comes after the earlier
-    /// diagnostics, and made names go on counting. Where memory runs out, the diagnostics are the first of those that there are.
+    /// diagnostics, each with the specifier, and made names go on counting. Where memory runs out, the diagnostics are the
+    /// first of those that there are.
     pub fn transform(
         &mut self,
         alloc: Global,
@@ -68,8 +72,14 @@ impl<'a> FastCheckDtsTransformer<'a> {
             → declarations_in it ≡ Some (declared (env_of number self.old) program.now.typed (state_in self.old)).0) }
         ensures found { OnOk result ((number : Numbers) → Numbered program.now.tokens numbers.now number
             → state_in self.new ≡ (declared (env_of number self.old) program.now.typed (state_in self.old)).1) }
+        ensures diagnostics { OnOk result ((number : Numbers) → Numbered program.now.tokens numbers.now number
+            → self.new.diagnostics.items ≡ diagnostics_with number self.old program.now.typed) }
         ensures prefix { OnErr result ((number : Numbers) → Numbered program.now.tokens numbers.now number
-            → Begins (found_in self.new) (declared (env_of number self.old) program.now.typed (state_in self.old)).1.found) }
+            → Begins self.new.diagnostics.items (diagnostics_with number self.old program.now.typed)) }
+        ensures made { OnErr result (self.new.made ≡ self.old.made) }
+        ensures specifier { self.new.specifier.now ≡ self.old.specifier.now }
+        ensures ranges { self.new.public_ranges.now ≡ self.old.public_ranges.now }
+        ensures unresolved { self.new.unresolved_context ≡ self.old.unresolved_context }
     {
         let Declared {
             declarations,
@@ -90,9 +100,12 @@ impl<'a> FastCheckDtsTransformer<'a> {
 
     /// Adds diagnostics of the module.
     fn add(&mut self, found: &[Found]) -> Result<(), AllocError>
-        ensures added { OnOk result (found_in self.new ≡ found_in self.old ++ found.now) }
-        ensures begun { OnErr result (Begins (found_in self.new) (found_in self.old ++ found.now)) }
+        ensures added { OnOk result (self.new.diagnostics.items ≡ self.old.diagnostics.items ++ diagnosed self.old found.now) }
+        ensures begun { OnErr result (Begins self.new.diagnostics.items (self.old.diagnostics.items ++ diagnosed self.old found.now)) }
         ensures made { self.new.made ≡ self.old.made }
+        ensures specifier { self.new.specifier.now ≡ self.old.specifier.now }
+        ensures ranges { self.new.public_ranges.now ≡ self.old.public_ranges.now }
+        ensures unresolved { self.new.unresolved_context ≡ self.old.unresolved_context }
     {
         for it in found {
             self.add_one(it)?;
@@ -102,9 +115,10 @@ impl<'a> FastCheckDtsTransformer<'a> {
 
     /// Adds one diagnostic; without memory none is added.
     fn add_one(&mut self, it: &Found) -> Result<(), AllocError>
-        ensures added { OnOk result (found_in self.new ≡ found_in self.old ++ it.now ∷ []) }
-        ensures kept { OnErr result (found_in self.new ≡ found_in self.old) }
+        ensures added { OnOk result (self.new.diagnostics.items ≡ self.old.diagnostics.items ++ diagnostic_of (serialize self.old.specifier.now) it.now ∷ []) }
+        ensures kept { OnErr result (self.new.diagnostics.items ≡ self.old.diagnostics.items) }
         ensures made { self.new.made ≡ self.old.made }
+        ensures specifier { self.new.specifier.now ≡ self.old.specifier.now }
         ensures ranges { self.new.public_ranges.now ≡ self.old.public_ranges.now }
         ensures unresolved { self.new.unresolved_context ≡ self.old.unresolved_context }
     {

@@ -19,10 +19,9 @@ ghost use Rattle.dts_items.specs.Changed.{FirstName, InsideBy};
 
 use crate::decls::is_declarable;
 use crate::items::items;
-use base::Range;
 use dts_draft::{Draft, is_kind};
 use dts_enums::enum_declaration;
-use dts_members::class;
+use dts_members::{RangeSet, class};
 use dts_names::Env;
 use es_grammar::NodeKind;
 use es_syntax::{Item, Siblings, What};
@@ -80,7 +79,7 @@ fn outer_name(out: &mut Draft, tokens: &[Token], name: &Item<'_>)
 
 /// Items that aren't on the top, as a group.
 #[cycle(items)]
-fn inside(out: &mut Draft, env: &Env<'_>, ranges: &[Range], body: &Siblings<'_>)
+fn inside(out: &mut Draft, env: &Env<'_>, ranges: &RangeSet, body: &Siblings<'_>)
     requires { ReadsTokens env.now.text.now env.now.tokens.now }
     ensures before { out.new.failed ≡ false → out.old.failed ≡ false }
     ensures written { out.new.failed ≡ false → InsideBy env.now ranges.now out.old out.new (items_of (held env.now.text.now env.now.tokens.now body.now.entries.now)) }
@@ -95,7 +94,7 @@ fn inside(out: &mut Draft, env: &Env<'_>, ranges: &[Range], body: &Siblings<'_>)
 fn namespace_node(
     out: &mut Draft,
     env: &Env<'_>,
-    ranges: &[Range],
+    ranges: &RangeSet,
     from: u32,
     to: u32,
     word: u32,
@@ -118,7 +117,7 @@ fn namespace_node(
 fn module_node(
     out: &mut Draft,
     env: &Env<'_>,
-    ranges: &[Range],
+    ranges: &RangeSet,
     from: u32,
     to: u32,
     name: &Item<'_>,
@@ -141,7 +140,7 @@ fn module_node(
 fn module(
     out: &mut Draft,
     env: &Env<'_>,
-    ranges: &[Range],
+    ranges: &RangeSet,
     it: &Item<'_>,
     name: &Item<'_>,
     body: &Siblings<'_>,
@@ -167,7 +166,7 @@ fn module(
 fn global_node(
     out: &mut Draft,
     env: &Env<'_>,
-    ranges: &[Range],
+    ranges: &RangeSet,
     from: u32,
     to: u32,
     body: &Siblings<'_>,
@@ -183,7 +182,7 @@ fn global_node(
 
 /// A class, an enum or a namespace, as the rules have it on the top, elsewhere and after `export default`.
 #[cycle(items)]
-pub(crate) fn block(out: &mut Draft, env: &Env<'_>, ranges: &[Range], it: &Item<'_>)
+pub(crate) fn block(out: &mut Draft, env: &Env<'_>, ranges: &RangeSet, it: &Item<'_>)
     requires { ReadsTokens env.now.text.now env.now.tokens.now }
     ensures before { out.new.failed ≡ false → out.old.failed ≡ false }
     ensures written { out.new.failed ≡ false → DeclaresBy env.now ranges.now out.old out.new (span_of env.now.tokens.now it.now.from it.now.to) (declarable_in (valued env.now.text.now env.now.tokens.now it.now)) }

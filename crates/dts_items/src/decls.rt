@@ -13,10 +13,9 @@ ghost use Rattle.dts_items.specs.Changed.{as_declared, as_variables, BlockBy, Bl
 ghost use Rattle.dts_items.specs.Decls.{DeclMade, DefaultMade};
 
 use crate::blocks::block;
-use base::Range;
 use dts_draft::Draft;
 use dts_enums::keep_others;
-use dts_members::class;
+use dts_members::{RangeSet, class};
 use dts_names::Env;
 use dts_parts::{plain_function, typed_function};
 use dts_variables::variables;
@@ -157,7 +156,7 @@ fn declared_variables(
 
 /// What may follow `declare`, but for the `declare` itself: types are written by others.
 #[cycle(items)]
-fn declarable(out: &mut Draft, env: &Env<'_>, ranges: &[Range], it: &Item<'_>)
+fn declarable(out: &mut Draft, env: &Env<'_>, ranges: &RangeSet, it: &Item<'_>)
     requires { ReadsTokens env.now.text.now env.now.tokens.now }
     ensures before { out.new.failed ≡ false → out.old.failed ≡ false }
     ensures written { out.new.failed ≡ false → BlockBy env.now ranges.now out.old out.new (span_of env.now.tokens.now it.now.from it.now.to) (declarable_in (valued env.now.text.now env.now.tokens.now it.now)) }
@@ -196,7 +195,7 @@ fn declarable(out: &mut Draft, env: &Env<'_>, ranges: &[Range], it: &Item<'_>)
 fn declared_node(
     out: &mut Draft,
     env: &Env<'_>,
-    ranges: &[Range],
+    ranges: &RangeSet,
     from: u32,
     to: u32,
     inner: &Item<'_>,
@@ -217,7 +216,7 @@ fn declared_node(
 fn declared(
     out: &mut Draft,
     env: &Env<'_>,
-    ranges: &[Range],
+    ranges: &RangeSet,
     from: u32,
     to: u32,
     inner: &Item<'_>,
@@ -237,7 +236,7 @@ fn declared(
 }
 
 /// A declaration of another form, which has no `declare`.
-fn other_decl(out: &mut Draft, env: &Env<'_>, ranges: &[Range], it: &Item<'_>)
+fn other_decl(out: &mut Draft, env: &Env<'_>, ranges: &RangeSet, it: &Item<'_>)
     requires { ReadsTokens env.now.text.now env.now.tokens.now }
     ensures before { out.new.failed ≡ false → out.old.failed ≡ false }
     ensures written { out.new.failed ≡ false → ChangedBy env.now ranges.now out.old out.new (decl_in (valued env.now.text.now env.now.tokens.now it.now)) }
@@ -269,7 +268,7 @@ fn other_decl(out: &mut Draft, env: &Env<'_>, ranges: &[Range], it: &Item<'_>)
 
 /// A declaration without `declare`, but for the `declare` that it gets on the top.
 #[cycle(items)]
-fn changed(out: &mut Draft, env: &Env<'_>, ranges: &[Range], it: &Item<'_>)
+fn changed(out: &mut Draft, env: &Env<'_>, ranges: &RangeSet, it: &Item<'_>)
     requires { ReadsTokens env.now.text.now env.now.tokens.now }
     ensures before { out.new.failed ≡ false → out.old.failed ≡ false }
     ensures written { out.new.failed ≡ false → ChangedBy env.now ranges.now out.old out.new (decl_in (valued env.now.text.now env.now.tokens.now it.now)) }
@@ -283,7 +282,7 @@ fn changed(out: &mut Draft, env: &Env<'_>, ranges: &[Range], it: &Item<'_>)
 
 /// The same as the rules have it on the top or elsewhere.
 #[cycle(items)]
-fn undeclared(out: &mut Draft, env: &Env<'_>, ranges: &[Range], it: &Item<'_>, top: bool)
+fn undeclared(out: &mut Draft, env: &Env<'_>, ranges: &RangeSet, it: &Item<'_>, top: bool)
     requires { ReadsTokens env.now.text.now env.now.tokens.now }
     ensures before { out.new.failed ≡ false → out.old.failed ≡ false }
     ensures written { out.new.failed ≡ false → DeclMade env.now ranges.now top out.old out.new (decl_in (valued env.now.text.now env.now.tokens.now it.now)) }
@@ -296,7 +295,7 @@ fn undeclared(out: &mut Draft, env: &Env<'_>, ranges: &[Range], it: &Item<'_>, t
 
 /// A declaration that doesn't stay, after `declare` on the top, without it elsewhere.
 #[cycle(items)]
-pub(crate) fn decl(out: &mut Draft, env: &Env<'_>, ranges: &[Range], it: &Item<'_>, top: bool)
+pub(crate) fn decl(out: &mut Draft, env: &Env<'_>, ranges: &RangeSet, it: &Item<'_>, top: bool)
     requires { ReadsTokens env.now.text.now env.now.tokens.now }
     ensures before { out.new.failed ≡ false → out.old.failed ≡ false }
     ensures written { out.new.failed ≡ false → DeclMade env.now ranges.now top out.old out.new (decl_in (valued env.now.text.now env.now.tokens.now it.now)) }
@@ -312,7 +311,7 @@ pub(crate) fn decl(out: &mut Draft, env: &Env<'_>, ranges: &[Range], it: &Item<'
 
 /// What may follow `declare`, after `export default`: the parameters of a function stay, and so do types.
 #[cycle(items)]
-fn default_declarable(out: &mut Draft, env: &Env<'_>, ranges: &[Range], it: &Item<'_>)
+fn default_declarable(out: &mut Draft, env: &Env<'_>, ranges: &RangeSet, it: &Item<'_>)
     requires read { ReadsTokens env.now.text.now env.now.tokens.now }
     requires is { (x : List ℕ) (ts : List Tok) → decl_in (valued x ts it.now) ≡ as_declared false (span_of ts it.now.from it.now.to) (declarable_in (valued x ts it.now)) }
     ensures before { out.new.failed ≡ false → out.old.failed ≡ false }
@@ -348,7 +347,7 @@ fn default_declarable(out: &mut Draft, env: &Env<'_>, ranges: &[Range], it: &Ite
 }
 
 /// A declaration of another form, after `export default`.
-fn default_other(out: &mut Draft, env: &Env<'_>, ranges: &[Range], it: &Item<'_>)
+fn default_other(out: &mut Draft, env: &Env<'_>, ranges: &RangeSet, it: &Item<'_>)
     requires { ReadsTokens env.now.text.now env.now.tokens.now }
     ensures before { out.new.failed ≡ false → out.old.failed ≡ false }
     ensures written { out.new.failed ≡ false → DefaultMade env.now ranges.now out.old out.new (decl_in (valued env.now.text.now env.now.tokens.now it.now)) }
@@ -370,7 +369,7 @@ fn default_other(out: &mut Draft, env: &Env<'_>, ranges: &[Range], it: &Item<'_>
 
 /// A declaration after `export default`: the parameters of a function stay, and so do types.
 #[cycle(items)]
-pub(crate) fn default_decl(out: &mut Draft, env: &Env<'_>, ranges: &[Range], it: &Item<'_>)
+pub(crate) fn default_decl(out: &mut Draft, env: &Env<'_>, ranges: &RangeSet, it: &Item<'_>)
     requires { ReadsTokens env.now.text.now env.now.tokens.now }
     ensures before { out.new.failed ≡ false → out.old.failed ≡ false }
     ensures written { out.new.failed ≡ false → DefaultMade env.now ranges.now out.old out.new (decl_in (valued env.now.text.now env.now.tokens.now it.now)) }

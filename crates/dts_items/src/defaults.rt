@@ -15,9 +15,8 @@ ghost use Rattle.dts_items.specs.Exports.{ConstMade, DefaultExprMade, DefaultTur
 use crate::decls::default_decl;
 use crate::labels::{default_label, is_name};
 use crate::sorts::{Sort, sort_of};
-use base::Range;
 use dts_draft::Draft;
-use dts_members::is_listed;
+use dts_members::{RangeSet, is_listed};
 use dts_names::Env;
 use dts_types::{Ask, infer};
 use es_changed::{Change, Form};
@@ -26,7 +25,7 @@ use es_syntax::Item;
 
 /// A declaration after `export default`.
 #[cycle(items)]
-fn defaulted(out: &mut Draft, env: &Env<'_>, ranges: &[Range], it: &Item<'_>, inner: &Item<'_>)
+fn defaulted(out: &mut Draft, env: &Env<'_>, ranges: &RangeSet, it: &Item<'_>, inner: &Item<'_>)
     requires { ReadsTokens env.now.text.now env.now.tokens.now }
     ensures before { out.new.failed ≡ false → out.old.failed ≡ false }
     ensures written { out.new.failed ≡ false → DefaultTurnMade env.now ranges.now out.old out.new (span_of env.now.tokens.now it.now.from it.now.to) (decl_in (valued env.now.text.now env.now.tokens.now inner.now)) }
@@ -48,7 +47,7 @@ fn defaulted(out: &mut Draft, env: &Env<'_>, ranges: &[Range], it: &Item<'_>, in
 fn default_function(
     out: &mut Draft,
     env: &Env<'_>,
-    ranges: &[Range],
+    ranges: &RangeSet,
     it: &Item<'_>,
     inner: &Item<'_>,
 )
@@ -68,7 +67,7 @@ fn default_function(
 pub(crate) fn export_default(
     out: &mut Draft,
     env: &Env<'_>,
-    ranges: &[Range],
+    ranges: &RangeSet,
     it: &Item<'_>,
     inner: &Item<'_>,
 )

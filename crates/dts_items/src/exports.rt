@@ -13,9 +13,8 @@ ghost use Rattle.dts_items.specs.Exports.{ExportMade, FunctionExportMade, Export
 use crate::decls::decl;
 use crate::defaults::{default_expr, export_default};
 use crate::sorts::{Sort, sort_of};
-use base::Range;
 use dts_draft::Draft;
-use dts_members::is_listed;
+use dts_members::{RangeSet, is_listed};
 use dts_names::Env;
 use dts_rules::FoundKind;
 use es_expr_spans::span_of;
@@ -28,7 +27,7 @@ use es_view_modules::items::{Export, export_at, import_at};
 fn exported(
     out: &mut Draft,
     env: &Env<'_>,
-    ranges: &[Range],
+    ranges: &RangeSet,
     it: &Item<'_>,
     inner: &Item<'_>,
     top: bool,
@@ -49,7 +48,7 @@ fn exported(
 fn exported_function(
     out: &mut Draft,
     env: &Env<'_>,
-    ranges: &[Range],
+    ranges: &RangeSet,
     it: &Item<'_>,
     inner: &Item<'_>,
     top: bool,
@@ -86,7 +85,7 @@ fn no_using(out: &mut Draft, env: &Env<'_>, it: &Item<'_>, inner: &Item<'_>)
 fn export_decl(
     out: &mut Draft,
     env: &Env<'_>,
-    ranges: &[Range],
+    ranges: &RangeSet,
     turn: &Item<'_>,
     it: &Item<'_>,
     inner: &Item<'_>,
@@ -108,7 +107,7 @@ fn export_decl(
 fn import(
     out: &mut Draft,
     env: &Env<'_>,
-    ranges: &[Range],
+    ranges: &RangeSet,
     turn: &Item<'_>,
     it: &Item<'_>,
     top: bool,
@@ -127,7 +126,7 @@ fn import(
 pub(crate) fn module_decl(
     out: &mut Draft,
     env: &Env<'_>,
-    ranges: &[Range],
+    ranges: &RangeSet,
     turn: &Item<'_>,
     it: &Item<'_>,
     top: bool,

@@ -10,14 +10,21 @@ ghost use Rattle.dts_items.specs.Items.{InTurn, ItemMade, ItemsMade, StmtMade, S
 use crate::exports::module_decl;
 use crate::labels::is_module_decl;
 use crate::stmts::stmt;
-use base::Range;
 use dts_draft::Draft;
+use dts_members::RangeSet;
 use dts_names::Env;
 use es_syntax::{Item, Siblings};
 
 /// An item in this turn.
 #[cycle(items)]
-fn item(out: &mut Draft, env: &Env<'_>, ranges: &[Range], turn: &Item<'_>, it: &Item<'_>, top: bool)
+fn item(
+    out: &mut Draft,
+    env: &Env<'_>,
+    ranges: &RangeSet,
+    turn: &Item<'_>,
+    it: &Item<'_>,
+    top: bool,
+)
     requires { ReadsTokens env.now.text.now env.now.tokens.now }
     ensures before { out.new.failed ≡ false → out.old.failed ≡ false }
     ensures items { out.new.failed ≡ false → InTurn turn.now it.now → ItemMade env.now ranges.now top out.old out.new (item_in (valued env.now.text.now env.now.tokens.now it.now)) }
@@ -32,7 +39,7 @@ fn item(out: &mut Draft, env: &Env<'_>, ranges: &[Range], turn: &Item<'_>, it: &
 
 /// The item of a turn.
 #[cycle(items)]
-fn item_turn(out: &mut Draft, env: &Env<'_>, ranges: &[Range], turn: &Item<'_>, top: bool)
+fn item_turn(out: &mut Draft, env: &Env<'_>, ranges: &RangeSet, turn: &Item<'_>, top: bool)
     requires { ReadsTokens env.now.text.now env.now.tokens.now }
     ensures before { out.new.failed ≡ false → out.old.failed ≡ false }
     ensures items { out.new.failed ≡ false → ItemMade env.now ranges.now top out.old out.new (item_at (as_group (valued env.now.text.now env.now.tokens.now turn.now)) 0) }
@@ -50,7 +57,7 @@ fn item_turn(out: &mut Draft, env: &Env<'_>, ranges: &[Range], turn: &Item<'_>, 
 pub(crate) fn items(
     out: &mut Draft,
     env: &Env<'_>,
-    ranges: &[Range],
+    ranges: &RangeSet,
     body: &Siblings<'_>,
     top: bool,
 )

@@ -10,9 +10,9 @@ ghost use Rattle.es_syntax.specs.Roles.{program_in};
 ghost use Rattle.dts_items.specs.Programs.{ProgramMade};
 
 use crate::items::items;
-use base::Range;
 use dts_draft::Draft;
 use dts_enums::keep_part;
+use dts_members::RangeSet;
 use dts_names::Env;
 use es_grammar::NodeKind;
 use es_syntax::{Item, Siblings, What};
@@ -21,7 +21,7 @@ use es_syntax::{Item, Siblings, What};
 fn module(
     out: &mut Draft,
     env: &Env<'_>,
-    ranges: &[Range],
+    ranges: &RangeSet,
     from: u32,
     to: u32,
     parts: &Siblings<'_>,
@@ -42,7 +42,7 @@ fn module(
 fn script(
     out: &mut Draft,
     env: &Env<'_>,
-    ranges: &[Range],
+    ranges: &RangeSet,
     from: u32,
     to: u32,
     parts: &Siblings<'_>,
@@ -60,7 +60,7 @@ fn script(
 }
 
 /// A program.
-fn program(out: &mut Draft, env: &Env<'_>, ranges: &[Range], it: &Item<'_>)
+fn program(out: &mut Draft, env: &Env<'_>, ranges: &RangeSet, it: &Item<'_>)
     requires { ReadsTokens env.now.text.now env.now.tokens.now }
     ensures before { out.new.failed ≡ false → out.old.failed ≡ false }
     ensures written { out.new.failed ≡ false → ProgramMade env.now ranges.now out.old out.new (program_in (valued env.now.text.now env.now.tokens.now it.now)) }
@@ -79,7 +79,7 @@ fn program(out: &mut Draft, env: &Env<'_>, ranges: &[Range], it: &Item<'_>)
 }
 
 /// Writes the declarations of the program that is first in a row; these are the ranges of the bodies of overloads.
-pub fn declared_program(out: &mut Draft, env: &Env<'_>, ranges: &[Range], row: &Siblings<'_>)
+pub fn declared_program(out: &mut Draft, env: &Env<'_>, ranges: &RangeSet, row: &Siblings<'_>)
     requires { ReadsTokens env.now.text.now env.now.tokens.now }
     ensures before { out.new.failed ≡ false → out.old.failed ≡ false }
     ensures written { out.new.failed ≡ false → ProgramMade env.now ranges.now out.old out.new (program_in (part (held env.now.text.now env.now.tokens.now row.now.entries.now) 0)) }

@@ -12,16 +12,15 @@ ghost use Rattle.dts_items.specs.Items.{DeclStmtMade, FunctionStmtMade, InTurn, 
 use crate::decls::decl;
 use crate::labels::declares;
 use crate::sorts::{Sort, sort_of};
-use base::Range;
 use dts_draft::Draft;
-use dts_members::is_listed;
+use dts_members::{RangeSet, is_listed};
 use dts_names::Env;
 use es_expr_spans::span_of;
 use es_syntax::Item;
 
 /// A declaration that doesn't stay, in a turn of its own.
 #[cycle(items)]
-fn decl_turn(out: &mut Draft, env: &Env<'_>, ranges: &[Range], it: &Item<'_>, top: bool)
+fn decl_turn(out: &mut Draft, env: &Env<'_>, ranges: &RangeSet, it: &Item<'_>, top: bool)
     requires { ReadsTokens env.now.text.now env.now.tokens.now }
     ensures before { out.new.failed ≡ false → out.old.failed ≡ false }
     ensures written { out.new.failed ≡ false → TurnMade env.now ranges.now top out.old out.new (decl_in (valued env.now.text.now env.now.tokens.now it.now)) }
@@ -33,7 +32,7 @@ fn decl_turn(out: &mut Draft, env: &Env<'_>, ranges: &[Range], it: &Item<'_>, to
 
 /// A function, which is dropped where it is the body of overloads.
 #[cycle(items)]
-fn function_stmt(out: &mut Draft, env: &Env<'_>, ranges: &[Range], it: &Item<'_>, top: bool)
+fn function_stmt(out: &mut Draft, env: &Env<'_>, ranges: &RangeSet, it: &Item<'_>, top: bool)
     requires { ReadsTokens env.now.text.now env.now.tokens.now }
     ensures before { out.new.failed ≡ false → out.old.failed ≡ false }
     ensures written { out.new.failed ≡ false → FunctionStmtMade env.now ranges.now top out.old out.new (span_of env.now.tokens.now it.now.from it.now.to) (decl_in (valued env.now.text.now env.now.tokens.now it.now)) }
@@ -50,7 +49,7 @@ fn function_stmt(out: &mut Draft, env: &Env<'_>, ranges: &[Range], it: &Item<'_>
 fn decl_stmt(
     out: &mut Draft,
     env: &Env<'_>,
-    ranges: &[Range],
+    ranges: &RangeSet,
     turn: &Item<'_>,
     it: &Item<'_>,
     top: bool,
@@ -72,7 +71,7 @@ fn decl_stmt(
 pub(crate) fn stmt(
     out: &mut Draft,
     env: &Env<'_>,
-    ranges: &[Range],
+    ranges: &RangeSet,
     turn: &Item<'_>,
     it: &Item<'_>,
     top: bool,

@@ -96,7 +96,8 @@ module _ (by : rules.Env) where
         body = ms;
         span = r;
       }))
-      ∙ ap (after (λ members. a_class name is_abstract type_params (Some e) super_type_args implements r (some members)))
+      ∙ ap (after (λ members. a_class name is_abstract type_params (Some e) super_type_args implements r
+      (some members)))
       (turned ms s)
 
   shown_on : (declare : Bool) (c : Class) (r : Range) (top : Bool) (s : State)
@@ -143,7 +144,8 @@ module _ (by : rules.Env) where
               ec)) en;
           it = make (in_turn (shown_member by) ms (state_of grouped)).0;
           is = reads h.puts.values (some (in_turn (shown_member by) ms (state_of grouped)).0)
-              (read_turns (λ turn. member_at turn 0) h.puts.values (some (in_turn (shown_member by) ms (state_of grouped)).0)
+              (read_turns (λ turn. member_at turn 0) h.puts.values
+              (some (in_turn (shown_member by) ms (state_of grouped)).0)
               h.puts.are);
           declared =
               declared_is name is_abstract type_params super_class super_type_args implements r ms (state_of old)
@@ -202,7 +204,8 @@ module _ (by : rules.Env) where
         go (Some name) ne (Some sc) se (Some ms) h = record {
           is = written l.Class (class_ x ts r) (part p 0 ∷ part p 1 ∷ []) name false None sc None None r
               (reads name ne sc se) old begun two grouped filled closed_ new place spot from to ms eo ep
-              (both_written x ts begun.row one.row two.row (part p 0 ∷ []) (part p 1 ∷ []) w0 w1) eg es sg h.is ec en sn;
+              (both_written x ts begun.row one.row two.row (part p 0 ∷ []) (part p 1 ∷ []) w0 w1) eg es sg h.is ec en
+              sn;
         }
 
     abbrev Typed : Draft → Draft → Bool → ℕ → ℕ → Range → Option Class → Type 0
@@ -221,7 +224,8 @@ module _ (by : rules.Env) where
         → state_of new ≡ state_of filled
         → Typed old new is_abstract from to r (typed_class x ts is_abstract r p)
     unfolding typed_class
-    typed_class_made is_abstract old begun one two three four grouped filled closed_ new place spot from to r p row er eo
+    typed_class_made is_abstract old begun one two three four grouped filled closed_ new place spot from to r p row er
+        eo
         ep w0 w1 w2 w3 eg es sg h ec en sn =
         go (own_name_at x ts p 0) refl (params_part_at p 1) refl (optional expr_at (group p 2)) refl
         (args_part_at (group p 2) 1) refl (heritage_in ts (group p 3)) refl

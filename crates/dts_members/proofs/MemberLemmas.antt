@@ -166,7 +166,8 @@ module _ (by : rules.Env) where
       ∙ at_member by (ClassMember-F.StaticBlock stmts r))
 
   index_kept : (m : Modifiers) (name : Ident) (of ty : Option TsPart) (r : Range) (s : State)
-      → shown_member by (vMember.TsIndexSignature m name of ty r) s ≡ (Some (vMember.TsIndexSignature m name of ty r), s)
+      → shown_member by (vMember.TsIndexSignature m name of ty r) s
+      ≡ (Some (vMember.TsIndexSignature m name of ty r), s)
   index_kept m name of ty r s =
       ap (λ (run : Run (Option ClassMember)). run s)
       (ap (shown_member by) (sym (vMember.rolls-TsIndexSignature m name of ty r))
@@ -279,7 +280,8 @@ module _ (by : rules.Env) where
       unfolding member_of
       typed_method_labelled h = h
 
-      pub typed_async_labelled : Made old new wrote (typed_method_member ts vMethod.Method true (is_there (group p 1)) r p 2)
+      pub typed_async_labelled : Made old new wrote
+          (typed_method_member ts vMethod.Method true (is_there (group p 1)) r p 2)
           → Made old new wrote (member_of x ts l.TypedAsyncMember r p)
       unfolding member_of
       typed_async_labelled h = h

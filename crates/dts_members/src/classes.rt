@@ -14,7 +14,7 @@ ghost use Rattle.dts_members.specs.Classes.{ClassBy, DeclBy, DeclaresBy};
 ghost use Rattle.dts_members.specs.Members.{MembersBy, TurnBy};
 
 use crate::members::member;
-use base::Range;
+use crate::overloads::RangeSet;
 use dts_draft::Draft;
 use dts_enums::keep_part;
 use dts_names::Env;
@@ -22,7 +22,7 @@ use es_grammar::NodeKind;
 use es_syntax::{Item, Siblings, What};
 
 /// The member in a turn, where the declaration has it; else its text is dropped.
-fn member_turn(out: &mut Draft, env: &Env<'_>, ranges: &[Range], turn: &Item<'_>)
+fn member_turn(out: &mut Draft, env: &Env<'_>, ranges: &RangeSet, turn: &Item<'_>)
     requires { ReadsTokens env.now.text.now env.now.tokens.now }
     ensures before { out.new.failed ≡ false → out.old.failed ≡ false }
     ensures written { out.new.failed ≡ false → TurnBy env.now ranges.now out.old out.new (member_at (as_group (valued env.now.text.now env.now.tokens.now turn.now)) 0) }
@@ -42,7 +42,7 @@ fn member_turn(out: &mut Draft, env: &Env<'_>, ranges: &[Range], turn: &Item<'_>
 }
 
 /// The members in these turns.
-fn all_members(out: &mut Draft, env: &Env<'_>, ranges: &[Range], all: &Siblings<'_>)
+fn all_members(out: &mut Draft, env: &Env<'_>, ranges: &RangeSet, all: &Siblings<'_>)
     requires { ReadsTokens env.now.text.now env.now.tokens.now }
     ensures before { out.new.failed ≡ false → out.old.failed ≡ false }
     ensures written { out.new.failed ≡ false → MembersBy env.now ranges.now out.old out.new (turns (λ turn. member_at turn 0) (held env.now.text.now env.now.tokens.now all.now.entries.now)) }
@@ -55,7 +55,7 @@ fn all_members(out: &mut Draft, env: &Env<'_>, ranges: &[Range], all: &Siblings<
 }
 
 /// A class of JavaScript.
-fn plain_class(out: &mut Draft, env: &Env<'_>, ranges: &[Range], it: &Item<'_>)
+fn plain_class(out: &mut Draft, env: &Env<'_>, ranges: &RangeSet, it: &Item<'_>)
     requires { ReadsTokens env.now.text.now env.now.tokens.now }
     ensures before { out.new.failed ≡ false → out.old.failed ≡ false }
     ensures written { out.new.failed ≡ false → ClassBy env.now ranges.now out.old out.new l.Class it.now.from it.now.to (class_ env.now.text.now env.now.tokens.now (span_of env.now.tokens.now it.now.from it.now.to)) (class_ env.now.text.now env.now.tokens.now (span_of env.now.tokens.now it.now.from it.now.to) (held env.now.text.now env.now.tokens.now it.now.parts.entries.now)) }
@@ -80,7 +80,7 @@ fn typed_label(is_abstract: bool) -> NodeKind
 }
 
 /// A class of TypeScript.
-fn typed_class(out: &mut Draft, env: &Env<'_>, ranges: &[Range], is_abstract: bool, it: &Item<'_>)
+fn typed_class(out: &mut Draft, env: &Env<'_>, ranges: &RangeSet, is_abstract: bool, it: &Item<'_>)
     requires { ReadsTokens env.now.text.now env.now.tokens.now }
     ensures before { out.new.failed ≡ false → out.old.failed ≡ false }
     ensures written { out.new.failed ≡ false → ClassBy env.now ranges.now out.old out.new (made.typed_label is_abstract) it.now.from it.now.to (typed_functions.typed_class env.now.text.now env.now.tokens.now is_abstract (span_of env.now.tokens.now it.now.from it.now.to)) (typed_functions.typed_class env.now.text.now env.now.tokens.now is_abstract (span_of env.now.tokens.now it.now.from it.now.to) (held env.now.text.now env.now.tokens.now it.now.parts.entries.now)) }
@@ -97,7 +97,7 @@ fn typed_class(out: &mut Draft, env: &Env<'_>, ranges: &[Range], is_abstract: bo
 }
 
 /// A class with the members that its declaration has. `ranges` are those of the bodies of overloads.
-pub fn class(out: &mut Draft, env: &Env<'_>, ranges: &[Range], it: &Item<'_>)
+pub fn class(out: &mut Draft, env: &Env<'_>, ranges: &RangeSet, it: &Item<'_>)
     requires { ReadsTokens env.now.text.now env.now.tokens.now }
     ensures before { out.new.failed ≡ false → out.old.failed ≡ false }
     ensures decl { out.new.failed ≡ false → DeclBy env.now ranges.now out.old out.new (decl_in (valued env.now.text.now env.now.tokens.now it.now)) }

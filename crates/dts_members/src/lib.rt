@@ -1,7 +1,7 @@
 //! Members of classes, and classes, as declarations have them, written into a draft.
 //!
 //! - `class`: a class with the members that its declaration has.
-//! - `is_listed`: whether a range is one of the bodies of overloads.
+//! - `RangeSet`, `is_listed`: the ranges of the bodies of overloads, and whether a range is one of them.
 #![tactic(auto)]
 
 mod classes;
@@ -12,4 +12,4 @@ mod overloads;
 mod typed_methods;
 
 pub use classes::class;
-pub use overloads::is_listed;
+pub use overloads::{RangeSet, is_listed};

@@ -10,8 +10,8 @@ ghost use Rattle.es_syntax.specs.Roles.{member_in};
 ghost use Rattle.dts_members.specs.Members.{MemberBy};
 
 use crate::methods::{accessor_method, async_method, plain_method};
+use crate::overloads::RangeSet;
 use crate::typed_methods::{typed_accessor_method, typed_async_method, typed_method};
-use base::Range;
 use dts_draft::Draft;
 use dts_fields::{plain_field, typed_field};
 use dts_names::Env;
@@ -30,7 +30,7 @@ fn unread(out: &mut Draft) -> bool
 fn labelled(
     out: &mut Draft,
     env: &Env<'_>,
-    ranges: &[Range],
+    ranges: &RangeSet,
     label: NodeKind,
     it: &Item<'_>,
 ) -> bool
@@ -62,7 +62,7 @@ fn labelled(
 }
 
 /// Writes a member of a class, and answers whether the declaration has it: nothing is written of one that it lacks.
-pub(crate) fn member(out: &mut Draft, env: &Env<'_>, ranges: &[Range], it: &Item<'_>) -> bool
+pub(crate) fn member(out: &mut Draft, env: &Env<'_>, ranges: &RangeSet, it: &Item<'_>) -> bool
     requires { ReadsTokens env.now.text.now env.now.tokens.now }
     ensures before { out.new.failed ≡ false → out.old.failed ≡ false }
     ensures written { out.new.failed ≡ false → MemberBy env.now ranges.now out.old out.new result (member_in (valued env.now.text.now env.now.tokens.now it.now)) }

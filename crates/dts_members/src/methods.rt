@@ -14,8 +14,7 @@ ghost use Rattle.dts_members.specs.Methods as made;
 ghost use Rattle.dts_members.specs.Methods.{plain_of, PlainBy, PlainMethodBy};
 
 use crate::heads::params_up_to;
-use crate::overloads::is_listed;
-use base::Range;
+use crate::overloads::{RangeSet, is_listed};
 use dts_draft::{Draft, is_kind};
 use dts_enums::keep_part;
 use dts_member_keys::{MemberKey, is_dropped, member_key, write_key};
@@ -100,7 +99,7 @@ fn method_up_to(out: &mut Draft, env: &Env<'_>, it: &Item<'_>, of: &Parts<'_>, s
 fn keyed_method(
     out: &mut Draft,
     env: &Env<'_>,
-    ranges: &[Range],
+    ranges: &RangeSet,
     it: &Item<'_>,
     of: &Parts<'_>,
 ) -> bool
@@ -123,7 +122,7 @@ fn keyed_method(
 pub(crate) fn plain_method(
     out: &mut Draft,
     env: &Env<'_>,
-    ranges: &[Range],
+    ranges: &RangeSet,
     it: &Item<'_>,
     is_generator: bool,
 ) -> bool
@@ -164,7 +163,7 @@ pub(crate) fn plain_method(
 fn worded_method(
     out: &mut Draft,
     env: &Env<'_>,
-    ranges: &[Range],
+    ranges: &RangeSet,
     it: &Item<'_>,
     form: Form,
 ) -> bool
@@ -202,7 +201,7 @@ fn worded_method(
 }
 
 /// A method after `async`.
-pub(crate) fn async_method(out: &mut Draft, env: &Env<'_>, ranges: &[Range], it: &Item<'_>) -> bool
+pub(crate) fn async_method(out: &mut Draft, env: &Env<'_>, ranges: &RangeSet, it: &Item<'_>) -> bool
     requires { ReadsTokens env.now.text.now env.now.tokens.now }
     ensures before { out.new.failed ≡ false → out.old.failed ≡ false }
     ensures written { out.new.failed ≡ false → MemberBy env.now ranges.now out.old out.new result (method_member env.now.tokens.now vMethod.Method true (is_there (group (held env.now.text.now env.now.tokens.now it.now.parts.entries.now) 1)) (span_of env.now.tokens.now it.now.from it.now.to) (held env.now.text.now env.now.tokens.now it.now.parts.entries.now) 2) }
@@ -214,7 +213,7 @@ pub(crate) fn async_method(out: &mut Draft, env: &Env<'_>, ranges: &[Range], it:
 pub(crate) fn accessor_method(
     out: &mut Draft,
     env: &Env<'_>,
-    ranges: &[Range],
+    ranges: &RangeSet,
     it: &Item<'_>,
 ) -> bool
     requires { ReadsTokens env.now.text.now env.now.tokens.now }

@@ -1,28 +1,64 @@
-//! The bodies of overloads.
+//! The bodies of overloads, by their ranges.
 
-ghost use Rattle.std.specs.Prelude.{◌≡◌};
+ghost use Rattle.std.specs.Prelude.{◌≡◌, ◌||◌, OnOk, IfOk, []};
+ghost use Rattle.base.specs.declared.range.Range.{Range as ARange};
 ghost use Rattle.dts_rules.specs.Ranges.{has_range, same_range};
 
 use base::Range;
+use std::alloc::{AllocError, Global};
+use std::collections::BTreeSet;
+use std::marker::Model;
 
-/// Whether two ranges are one.
-fn is_same(a: Range, b: Range) -> bool
-    ensures { same_range a b ≡ result }
-{
-    a.start == b.start && a.end == b.end
+/// Ranges in order: one is found by as many steps as the logarithm of their number.
+#[derive(Debug, Drop)]
+pub struct RangeSet {
+    set: BTreeSet<Range>,
+}
+
+impl Model for RangeSet {
+    ghost use Rattle.std.specs.Prelude.{List};
+    ghost use Rattle.base.specs.declared.range.Range.{Range};
+
+    ghost Value = { List Range };
+
+    ghost view = { λ it. it.set.keys };
+}
+
+impl RangeSet {
+    /// No ranges.
+    fn new(alloc: Global) -> RangeSet
+        ensures { result ≡ [] }
+    {
+        RangeSet {
+            set: BTreeSet::new(alloc),
+        }
+    }
+
+    /// One range more.
+    fn insert(&mut self, range: Range) -> Result<(), AllocError>
+        ensures { OnOk result ((r : ARange) → has_range self.new r ≡ (same_range range r || has_range self.old r)) }
+    {
+        self.set.insert(range)?;
+        Ok(())
+    }
+
+    /// These ranges.
+    pub fn of(alloc: Global, ranges: &[Range]) -> Result<RangeSet, AllocError>
+        ensures { IfOk result (λ set. (r : ARange) → has_range set r ≡ has_range ranges.now r) }
+    {
+        let mut all = RangeSet::new(alloc);
+        let mut row = ranges;
+        while let Some((first, rest)) = row.split_first() {
+            all.insert(*first)?;
+            row = rest;
+        }
+        Ok(all)
+    }
 }
 
 /// Whether a range is one of these.
-#[tactic(auto, using(crate::proofs::OverloadLemmas::has_none, crate::proofs::OverloadLemmas::has_first, crate::proofs::OverloadLemmas::has_other))]
-pub fn is_listed(ranges: &[Range], range: Range) -> bool
+pub fn is_listed(ranges: &RangeSet, range: Range) -> bool
     ensures { has_range ranges.now range ≡ result }
 {
-    let mut row = ranges;
-    while let Some((first, rest)) = row.split_first() {
-        if is_same(*first, range) {
-            return true;
-        }
-        row = rest;
-    }
-    false
+    ranges.set.contains(&range)
 }

@@ -19,8 +19,7 @@ ghost use Rattle.dts_members.specs.Methods as made;
 ghost use Rattle.dts_members.specs.Methods.{between, GroupBy, NoBody, typed_by, typed_of, TypedBy, TypedMethodBy};
 
 use crate::heads::signature_up_to;
-use crate::overloads::is_listed;
-use base::Range;
+use crate::overloads::{RangeSet, is_listed};
 use dts_draft::{Draft, is_kind};
 use dts_enums::keep_part;
 use dts_member_keys::{MemberKey, is_dropped, member_key, write_key};
@@ -160,7 +159,7 @@ fn typed_up_to(
 fn keyed_method(
     out: &mut Draft,
     env: &Env<'_>,
-    ranges: &[Range],
+    ranges: &RangeSet,
     it: &Item<'_>,
     sort: Sort,
     of: &Parts<'_>,
@@ -184,7 +183,7 @@ fn keyed_method(
 fn headed_method(
     out: &mut Draft,
     env: &Env<'_>,
-    ranges: &[Range],
+    ranges: &RangeSet,
     it: &Item<'_>,
     sort: Sort,
     head: &Siblings<'_>,
@@ -231,7 +230,7 @@ fn typed_label(is_generator: bool) -> NodeKind
 pub(crate) fn typed_method(
     out: &mut Draft,
     env: &Env<'_>,
-    ranges: &[Range],
+    ranges: &RangeSet,
     it: &Item<'_>,
     is_generator: bool,
 ) -> bool
@@ -259,7 +258,7 @@ pub(crate) fn typed_method(
 pub(crate) fn typed_async_method(
     out: &mut Draft,
     env: &Env<'_>,
-    ranges: &[Range],
+    ranges: &RangeSet,
     it: &Item<'_>,
 ) -> bool
     requires { ReadsTokens env.now.text.now env.now.tokens.now }
@@ -286,7 +285,7 @@ pub(crate) fn typed_async_method(
 pub(crate) fn typed_accessor_method(
     out: &mut Draft,
     env: &Env<'_>,
-    ranges: &[Range],
+    ranges: &RangeSet,
     it: &Item<'_>,
 ) -> bool
     requires { ReadsTokens env.now.text.now env.now.tokens.now }

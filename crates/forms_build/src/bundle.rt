@@ -1,4 +1,4 @@
-//! Bundles with choices, and with more: which further forms count, and whether all forms are read.
+//! Bundles with choices, and with more: which further forms count, whether all forms are read, and where `require` leads.
 ghost use Rattle.std.specs.Prelude.{◌≡◌, ℕ, List, IfOk, Err, Ok};
 ghost use Rattle.serde_json.specs.Data.{Data};
 ghost use Rattle.serde_json.specs.View.{view, members_view};
@@ -9,8 +9,11 @@ ghost use Rattle.forms_build.specs.Bundle as spec;
 
 use base::Text;
 use forms_analyzer::Forms;
-use graph_bundle::{BundleFault, ChosenBundle, ChosenKeys, Keys, chosen_with, fault_of, optional};
-use import_map::json_reading::Reading;
+use graph_bundle::{
+    BundleFault, ChosenBundle, ChosenKeys, Keys, Part, chosen_with, fault_of, optional,
+};
+use import_map::ImportMap;
+use import_map::json_reading::{Reading, pointer};
 use serde_json::{Map, Value};
 use std::alloc::{AllocError, Global};
 
@@ -22,6 +25,8 @@ pub struct FormsBundle {
     pub forms: Forms,
     /// Forms are read too that a media type's own language leaves out.
     pub all_forms: bool,
+    /// Edges of `require` are resolved by this in place of the bundle's import map.
+    pub require_map: Option<ImportMap>,
 }
 
 /// The bundle that the bytes say, which are given back as soon as they are read, before the texts of the modules are made.
@@ -88,13 +93,31 @@ pub fn forms_with<K: Keys>(
         Ok(all_forms) => all_forms,
         Err(at) => return Ok(Err(at)),
     };
+    let require_map = match require_map_at(alloc, value)? {
+        Ok(require_map) => require_map,
+        Err(at) => return Ok(Err(at)),
+    };
     match chosen_with::<K>(alloc, value, members)? {
         Ok(chosen) => Ok(Ok(FormsBundle {
             chosen,
             forms,
             all_forms,
+            require_map,
         })),
         Err(at) => Ok(Err(at)),
+    }
+}
+
+/// The import map of the edges of `require`, if the bundle has one.
+fn require_map_at(alloc: Global, value: &Value) -> Result<Reading<Option<ImportMap>>, AllocError>
+    ensures { IfOk result (λ r. r ≡ spec.require_map_of (view value.now)) }
+{
+    match value.get("requireMap") {
+        Some(part) => match ImportMap::read(alloc, part)? {
+            Ok(map) => Ok(Ok(Some(map))),
+            Err(at) => Ok(Err(pointer(alloc, "requireMap", at.as_str())?)),
+        },
+        None => Ok(Ok(None)),
     }
 }
 
@@ -132,7 +155,7 @@ impl Keys for FormsKeys {
     ghost knows = { spec.knows_forms };
 
     fn knows(key: &str) -> bool {
-        ChosenKeys::knows(key) || is_form(key) || key == "allForms"
+        ChosenKeys::knows(key) || is_form(key) || key == "allForms" || key == "requireMap"
     }
 }
 

@@ -8,6 +8,7 @@ pub mod Calls
 pub mod Rewrite
 pub mod Exports
 pub mod Mentions
+pub mod Declarations
 pub mod Build
 pub mod Owned
 pub mod Graph

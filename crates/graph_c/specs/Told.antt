@@ -4,7 +4,7 @@ use Rattle.es_lexer.specs.declared.error.LexicalKind.{LexicalKind}
 use Rattle.es_lexer.specs.declared.error.LexicalKind.TheVariants.{UnterminatedString, UnterminatedComment, UnterminatedTemplate, UnterminatedRegExp, InvalidEscape, InvalidChar, Unbalanced}
 use Rattle.graph_c.specs.declared.text.NoText.TheVariants.{TooLong, NoUtf8}
 use Rattle.graph_c.specs.declared.finding.Finding.{Finding}
-use Rattle.graph_c.specs.declared.finding.Finding.TheVariants.{Found, Calls, Exports, Mentions, Lexical, Syntax, NoText, NotRead, NoMediaType}
+use Rattle.graph_c.specs.declared.finding.Finding.TheVariants.{Found, Calls, Exports, Mentions, Declared, Lexical, Syntax, NoText, NotRead, NoMediaType}
 
 abbrev pub lexical_number : LexicalKind → ℕ
 lexical_number UnterminatedString = 1
@@ -25,6 +25,8 @@ status_of true (Exports found) = 0
 status_of false (Exports found) = 4
 status_of true (Mentions found) = 0
 status_of false (Mentions found) = 4
+status_of true (Declared found) = 0
+status_of false (Declared found) = 4
 status_of room (NoText TooLong) = 6
 status_of room (NoText (NoUtf8 place)) = 7
 status_of room NoMediaType = 8

@@ -1,4 +1,5 @@
-//! What there is to tell of a source: its sites, its unread calls, its exports, or what it mentions, or why it has none.
+//! What there is to tell of a source: its sites, its unread calls, its exports, what it mentions, or its declarations, or why it
+//! has none.
 ghost use Rattle.std.specs.Prelude.{◌≡◌, ◌++◌, IfOk};
 ghost use Rattle.es_lexer.specs.Reads.{Reads};
 ghost use Rattle.graph_c.specs.Finding.{IsFinding, OfKind, OfBytes, OfText, OfTree, OfCalls, IsFault};
@@ -14,6 +15,7 @@ use es_lexer::{LexError, Lexed, LexicalError, Token, lex_tokens};
 use es_site::Site;
 use grammar_theory::SyntaxError;
 use media_type::{MediaType, ModuleKind};
+use source_declarations::SourceDeclarations;
 use source_mentions::Mention;
 use source_sites::{references_in, token_sites, with_sites};
 use std::alloc::{AllocError, Global};
@@ -30,6 +32,8 @@ pub enum Finding {
     Exports(ModuleExportsAndReExports),
     /// What it mentions, in the order of the text.
     Mentions(Items<Mention>),
+    /// Its declarations, and what couldn't be determined.
+    Declared(SourceDeclarations),
     /// No tokens read it: the first fault.
     Lexical(LexicalError),
     /// Its tokens have no tree, as is noticed at this byte.

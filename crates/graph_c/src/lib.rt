@@ -10,11 +10,13 @@
 //!   again, or why it isn't read (`AnswersExports`, `specs/Exports.antt`).
 //! - `joravelsu_mentions(text, media_type, allowed, strict)`: what a source mentions that a graph of its modules doesn't show, or
 //!   why it isn't read (`AnswersMentions`, `specs/Mentions.antt`).
+//! - `joravelsu_declarations(text, media_type, comments)`: the declarations of a source, and what couldn't be determined, or why
+//!   it isn't read (`AnswersDeclarations`, `specs/Declarations.antt`).
 //! - `joravelsu_graph_new`, `_poll`, `_wanted`, `_answer`, `_entry`, `_place`, `_free`: a graph whose loads the caller does,
 //!   behind a handle (`specs/Graph.antt`).
 //! - `joravelsu_version()`: the version of the library.
 //!
-//! The first six write into buffers of the caller's, all or nothing, and tell what they must hold. They keep no state. A
+//! The first seven write into buffers of the caller's, all or nothing, and tell what they must hold. They keep no state. A
 //! call fails besides only where memory runs out.
 //! Not promised: the place of a syntax error, and when memory runs out.
 #![tactic(auto)]
@@ -26,12 +28,15 @@ ghost use Rattle.graph_c.specs.Calls.{AnswersCalls};
 ghost use Rattle.graph_c.specs.Rewrite.{AnswersRewrite};
 ghost use Rattle.graph_c.specs.Exports.{AnswersExports};
 ghost use Rattle.graph_c.specs.Mentions.{AnswersMentions};
+ghost use Rattle.graph_c.specs.Declarations.{AnswersDeclarations};
 ghost use Rattle.graph_c.specs.Graph.{News, AtPoll, AtWanted, AtAnswer, AtEntry, AtPlace};
 ghost use Rattle.std.specs.Prelude.{None};
 
 mod answer;
 mod build;
 mod calls;
+mod declarations;
+mod declaring;
 mod exporting;
 mod exports;
 mod finding;
@@ -49,6 +54,7 @@ mod told;
 use crate::answer::{Answer, SourceSite, answer_sites};
 use crate::build::build_report;
 use crate::calls::{CallsAnswer, SourceCall, answer_calls};
+use crate::declarations::{DeclarationsAnswer, SourceDiagnostic, answer_declarations};
 use crate::exports::{ExportsAnswer, SourceName, answer_exports};
 use crate::graph::Graph;
 use crate::mentions::{MentionsAnswer, SourceMention, answer_mentions};
@@ -171,6 +177,31 @@ pub extern "C" fn joravelsu_exports(
         common_js != 0,
         names,
         values,
+        answer,
+    )
+}
+
+/// Finds the declarations of a source, and writes their text into the second buffer, with the comments before their items where
+/// `comments` isn't 0, and a record for each type that couldn't be determined into the first.
+#[unsafe(no_mangle)]
+pub extern "C" fn joravelsu_declarations(
+    alloc: Global,
+    text: &[u8],
+    media_type: u32,
+    comments: u32,
+    diagnostics: &mut [SourceDiagnostic],
+    room: &mut [u8],
+    answer: &mut DeclarationsAnswer,
+) -> u32
+    ensures { AnswersDeclarations (not (nat_eq comments 0)) media_type text.now diagnostics.old diagnostics.new room.old room.new answer.new result }
+{
+    answer_declarations(
+        alloc,
+        text,
+        media_type,
+        comments != 0,
+        diagnostics,
+        room,
         answer,
     )
 }

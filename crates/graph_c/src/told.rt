@@ -49,9 +49,11 @@ pub fn status_of(finding: &Finding, fit: bool) -> u32
     ensures { result ≡ status_of fit finding.now }
 {
     match finding {
-        Finding::Found(_) | Finding::Calls(_) | Finding::Exports(_) | Finding::Mentions(_) => {
-            if fit { 0 } else { 4 }
-        }
+        Finding::Found(_)
+        | Finding::Calls(_)
+        | Finding::Exports(_)
+        | Finding::Mentions(_)
+        | Finding::Declared(_) => { if fit { 0 } else { 4 } }
         Finding::NoText(NoText::TooLong) => 6,
         Finding::NoText(NoText::NoUtf8(_)) => 7,
         Finding::NoMediaType => 8,

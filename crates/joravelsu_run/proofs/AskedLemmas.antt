@@ -12,7 +12,7 @@ use Rattle.forms_build.proofs.BundleLemmas.{forms_unforced, members_free as memb
 use Rattle.joravelsu_run.specs.declared.words.Form.{Form}
 use Rattle.joravelsu_run.specs.declared.words.Form.TheVariants as form
 use Rattle.joravelsu_run.specs.declared.asked.Telling.{Telling}
-use Rattle.joravelsu_run.specs.declared.asked.Telling.TheVariants.{Report, Order, Groups, Faults, Way, Gone, Verdict}
+use Rattle.joravelsu_run.specs.declared.asked.Telling.TheVariants.{Report, Order, Groups, Faults, Way, Gone, Verdict, Declarations}
 use Rattle.joravelsu_run.specs.declared.asked.Asked.{Asked}
 use Rattle.joravelsu_run.specs.Without.{without_of}
 use Rattle.joravelsu_run.specs.Asked.{following_in, knows_way, way_from, way_of, knows_gone, gone_from, gone_of, knows_ruled, ruled_from, ruled_of, asked_of}
@@ -87,3 +87,5 @@ asked_free form.Faults value asked is =
 asked_free form.Why value asked is = way_free value asked is
 asked_free form.Gone value asked is = gone_free value asked is
 asked_free form.Policy value asked is = ruled_free value asked is
+asked_free form.Declarations value asked is =
+    forms_unforced value asked.forms (plain_is Declarations (forms_of value) asked is).0

@@ -17,7 +17,7 @@ place_told : (kind : SyntaxErrorKind) (range : Range) → IsPlaceOf (told_range 
 place_told (Lexical kind) range = refl
 place_told Syntax range = tt
 
-pairs_more : {A B : Type 0} (f : A → B) (xs : List A) (x : A) → map f (xs ++ x ∷ []) ≡ map f xs ++ f x ∷ []
+pub pairs_more : {A B : Type 0} (f : A → B) (xs : List A) (x : A) → map f (xs ++ x ∷ []) ≡ map f xs ++ f x ∷ []
 pairs_more f [] x = refl
 pairs_more f (y ∷ xs) x = ap (λ l. f y ∷ l) (pairs_more f xs x)
 

@@ -23,7 +23,7 @@ use Rattle.graph_check.specs.Check.{Look, kept, broken}
 use Rattle.joravelsu_run.specs.declared.words.Form.{Form}
 use Rattle.joravelsu_run.specs.declared.words.Form.TheVariants as form
 use Rattle.joravelsu_run.specs.declared.asked.Telling.{Telling}
-use Rattle.joravelsu_run.specs.declared.asked.Telling.TheVariants.{Report, Order, Groups, Faults, Way, Gone, Verdict}
+use Rattle.joravelsu_run.specs.declared.asked.Telling.TheVariants.{Report, Order, Groups, Faults, Way, Gone, Verdict, Declarations}
 use Rattle.joravelsu_run.specs.declared.asked.Asked.{Asked}
 use Rattle.joravelsu_run.specs.Words.{IsForm, IsNoForm}
 use Rattle.graph_why.specs.declared.step.Without.{Without}
@@ -83,6 +83,7 @@ any_ends Faults g status text is = inl is.0
 any_ends (Way following to) g status text is = inl is.0
 any_ends (Gone following without) g status text is = inl is.0
 any_ends (Verdict policy) g status text is = verdict_ends (look_at policy g) status is.0
+any_ends Declarations g status text is = inl is.0
 
 -- a way is told of words that ask for one
 way_is : (key : Reading Parts) (r : Reading FormsBundle) (a : Asked)
@@ -141,6 +142,8 @@ told_ends form.Faults value a says g status text is =
 told_ends form.Why value a says g status text is = way_ends value a says g status text is
 told_ends form.Gone value a says g status text is = gone_ends value a says g status text is
 told_ends form.Policy value a says g status text is = any_ends a.telling g status text is
+told_ends form.Declarations value a says g status text is =
+    (subst (λ (t : Telling). Tells t g status text) (plain_is Declarations (forms_of value) a says).1 is).0
 
 -- ---- which status comes
 

@@ -10,7 +10,7 @@ use Rattle.graph_policy_file.specs.PolicyFile.{policy_of}
 use Rattle.joravelsu_run.specs.declared.words.Form.{Form}
 use Rattle.joravelsu_run.specs.declared.words.Form.TheVariants as form
 use Rattle.joravelsu_run.specs.declared.asked.Telling.{Telling}
-use Rattle.joravelsu_run.specs.declared.asked.Telling.TheVariants.{Report, Order, Groups, Faults, Way, Gone, Verdict}
+use Rattle.joravelsu_run.specs.declared.asked.Telling.TheVariants.{Report, Order, Groups, Faults, Way, Gone, Verdict, Declarations}
 use Rattle.joravelsu_run.specs.declared.asked.Asked.{Asked}
 use Rattle.joravelsu_run.specs.Without.{without_of}
 
@@ -72,3 +72,4 @@ asked_of form.Faults value = plain_of Faults value
 asked_of form.Why value = way_of value
 asked_of form.Gone value = gone_of value
 asked_of form.Policy value = ruled_of value
+asked_of form.Declarations value = plain_of Declarations value

@@ -15,13 +15,14 @@ use Rattle.graph_run.specs.Run.{HasMoreThan, bundle_starts, too_long_line, not_j
 use Rattle.joravelsu_run.specs.declared.words.Form.{Form}
 use Rattle.joravelsu_run.specs.declared.words.Form.TheVariants as form
 use Rattle.joravelsu_run.specs.declared.asked.Telling.{Telling}
-use Rattle.joravelsu_run.specs.declared.asked.Telling.TheVariants.{Report, Order, Groups, Faults, Way, Gone, Verdict}
+use Rattle.joravelsu_run.specs.declared.asked.Telling.TheVariants.{Report, Order, Groups, Faults, Way, Gone, Verdict, Declarations}
 use Rattle.joravelsu_run.specs.declared.asked.Asked.{Asked}
 use Rattle.joravelsu_run.specs.Asked.{asked_of}
 use Rattle.joravelsu_run.specs.Groups.{IsGroupsText}
 use Rattle.joravelsu_run.specs.Faults.{IsFaultsText}
 use Rattle.joravelsu_run.specs.Ways.{IsWhyText, IsGoneText}
 use Rattle.joravelsu_run.specs.Verdicts.{verdict_status, verdict_line}
+use Rattle.joravelsu_run.specs.Declarations.{IsDeclarationsText}
 
 -- more is reached than the bundle allows
 abbrev pub IsTooLarge : FormsBundle → Type 0
@@ -32,7 +33,7 @@ IsTooLarge forms =
 -- ---- what is due
 
 -- what is told of a graph, and how that ends: its report, the order of its modules, their groups, what is wrong with their texts, a
--- way to a specifier, what is gone without something, or what rules say of it
+-- way to a specifier, what is gone without something, what rules say of it, or the declarations of its modules
 abbrev pub Tells : Telling → GraphData → Status → List ℕ → Type 0
 Tells Report graph status text = (status ≡ Done) × (text ≡ report_of graph)
 Tells Order graph status text = (status ≡ Done) × IsOrderText graph text
@@ -42,6 +43,7 @@ Tells (Way following to) graph status text = (status ≡ Done) × IsWhyText grap
 Tells (Gone following without) graph status text = (status ≡ Done) × IsGoneText graph following without text
 Tells (Verdict policy) graph status text =
     (status ≡ verdict_status policy graph) × (text ≡ verdict_line policy graph)
+Tells Declarations graph status text = (status ≡ Done) × IsDeclarationsText graph.entries text
 
 -- what is due for what an input says
 pub data OfAsked (asked : Asked) (status : Status) (text : List ℕ) : Type 0 where

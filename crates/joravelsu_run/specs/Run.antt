@@ -10,7 +10,7 @@ use Rattle.joravelsu_run.specs.Words.{IsForm, IsNoForm}
 use Rattle.joravelsu_run.specs.Due.{IsDueForm}
 
 abbrev pub usage_line : List ℕ
-usage_line = codes "usage: joravelsu_tool build | order | groups | faults | why | gone | policy" ++ line_end
+usage_line = codes "usage: joravelsu_tool build | order | groups | faults | why | gone | policy | declarations" ++ line_end
 
 -- what is due for words
 pub data IsDueFor (words : List (List ℕ)) (input : Option (List ℕ)) (status : Status) (text : List ℕ) : Type 0 where

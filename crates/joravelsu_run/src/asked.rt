@@ -37,6 +37,8 @@ pub enum Telling {
     Gone(Following, Without),
     /// What these rules say of it.
     Verdict(Policy),
+    /// The declarations of its modules.
+    Declarations,
 }
 
 /// What an input says: a bundle with choices, and what is answered about its graph.
@@ -85,6 +87,7 @@ fn asked_in(alloc: Global, value: &Value, form: Form) -> Result<Reading<Asked>, 
         Form::Why => way_in(alloc, value),
         Form::Gone => gone_in(alloc, value),
         Form::Policy => ruled_in(alloc, value),
+        Form::Declarations => plain_in(alloc, value, Telling::Declarations),
     }
 }
 

@@ -7,6 +7,7 @@ ghost use Rattle.joravelsu_run.specs.Due.{IsDue, Tells};
 ghost use Rattle.joravelsu_run.specs.Steps.{OfEnd};
 
 use crate::asked::{Asked, Telling, take_asked};
+use crate::declarations::declaration_lines;
 use crate::faults::fault_lines;
 use crate::groups::group_lines;
 use crate::verdicts::verdict_due;
@@ -76,6 +77,7 @@ fn told(alloc: Global, graph: &ModuleGraph, telling: &Telling) -> Result<Due, Al
             Ok(done(gone_lines(alloc, graph, *following, without)?))
         }
         Telling::Verdict(policy) => verdict_due(alloc, policy, graph),
+        Telling::Declarations => Ok(done(declaration_lines(alloc, graph)?)),
     }
 }
 

@@ -18,7 +18,8 @@ use std::thread::Threads;
 /// Runs the program with the arguments after its name. With `build` it reads a bundle with choices from the source and writes
 /// the report of its graph, or the line of a refusal; with `order` the order of its modules, or a cycle of them; with `groups`
 /// their groups; with `why` a shortest way to the bundle's specifier; with `gone` what is gone without its entry or edge; with
-/// `policy` the first thing that breaks one of its rules. Other arguments get the usage line. The analyses of a batch of modules run in threads.
+/// `policy` the first thing that breaks one of its rules; with `declarations` those of its modules. Other arguments get the
+/// usage line. The analyses of a batch of modules run in threads.
 pub fn run<R: Threads + Sync, S: Source, K: Sink>(
     rt: &R,
     alloc: Global,
@@ -53,7 +54,7 @@ pub fn run<R: Threads + Sync, S: Source, K: Sink>(
         None => finish(
             sink,
             Status::Usage,
-            "usage: joravelsu_tool build | order | groups | faults | why | gone | policy\n",
+            "usage: joravelsu_tool build | order | groups | faults | why | gone | policy | declarations\n",
         ),
     }
 }

@@ -19,6 +19,8 @@ pub enum Form {
     Faults,
     /// `policy`: what the rules that are read with it say of its graph.
     Policy,
+    /// `declarations`: the declarations of its modules.
+    Declarations,
 }
 
 /// The form of the program that the arguments are.
@@ -42,6 +44,7 @@ fn plain_form(word: &str) -> Option<Form>
         "gone" => Some(Form::Gone),
         "faults" => Some(Form::Faults),
         "policy" => Some(Form::Policy),
+        "declarations" => Some(Form::Declarations),
         _ => None,
     }
 }

@@ -258,6 +258,53 @@ static napi_value exports_of(napi_env env, napi_callback_info info)
     return result;
 }
 
+static napi_value declarations_in(napi_env env, const joravelsu_diagnostic *found, size_t count, const uint8_t *text, size_t length)
+{
+    napi_value result, list, value;
+    TRY(napi_create_array_with_length(env, 2, &result));
+    TRY(napi_create_string_utf8(env, (const char *)text, length, &value));
+    TRY(napi_set_element(env, result, 0, value));
+    TRY(napi_create_array_with_length(env, 3 * count, &list));
+    for (size_t i = 0; i < 3 * count; i++) {
+        const joravelsu_diagnostic *it = &found[i / 3];
+        TRY(napi_create_double(env, i % 3 == 0 ? it->kind : i % 3 == 1 ? (double)it->start : (double)it->end, &value));
+        TRY(napi_set_element(env, list, (uint32_t)i, value));
+    }
+    TRY(napi_set_element(env, result, 1, list));
+    return result;
+}
+
+/* declarations(text, mediaType, comments): [text, numbers], three numbers for each diagnostic, or why there are none. */
+static napi_value declarations(napi_env env, napi_callback_info info)
+{
+    size_t count = 3, length, room = 64, text_room;
+    napi_value words[3], result = NULL;
+    const uint8_t *text;
+    uint32_t media_type, comments, status = JORAVELSU_NO_ROOM;
+    joravelsu_declarations_answer answer = {0};
+    TRY(napi_get_cb_info(env, info, &count, words, NULL, NULL));
+    TRY(bytes_of(env, words[0], &text, &length));
+    TRY(napi_get_value_uint32(env, words[1], &media_type));
+    TRY(napi_get_value_uint32(env, words[2], &comments));
+    text_room = 2 * length + 64;
+    while (status == JORAVELSU_NO_ROOM) {
+        joravelsu_diagnostic *found = calloc(room + 1, sizeof *found);
+        uint8_t *buffer = malloc(text_room + 1);
+        if (found && buffer) {
+            status = joravelsu_declarations(text, length, media_type, comments, found, room, buffer, text_room, &answer);
+            room = answer.diagnostics;
+            text_room = answer.text_bytes;
+            if (status == JORAVELSU_DONE)
+                result = declarations_in(env, found, answer.diagnostics, buffer, answer.text_bytes);
+        } else {
+            status = JORAVELSU_NO_MEMORY;
+        }
+        free(found);
+        free(buffer);
+    }
+    return status == JORAVELSU_DONE ? result : refused(env, status, answer.place, 0);
+}
+
 /* report(bundle): { status, text }, of the report or of the line of a refusal. */
 static napi_value report(napi_env env, napi_callback_info info)
 {
@@ -512,6 +559,7 @@ NAPI_MODULE_INIT()
         {"unread", NULL, unread, NULL, NULL, NULL, napi_default, NULL},
         {"mentions", NULL, mentions, NULL, NULL, NULL, napi_default, NULL},
         {"rewrite", NULL, rewrite, NULL, NULL, NULL, napi_default, NULL},
+        {"declarations", NULL, declarations, NULL, NULL, NULL, napi_default, NULL},
         {"exports", NULL, exports_of, NULL, NULL, NULL, napi_default, NULL},
         {"report", NULL, report, NULL, NULL, NULL, napi_default, NULL},
         {"graphNew", NULL, graph_new, NULL, NULL, NULL, napi_default, NULL},

@@ -34,6 +34,23 @@ export interface Mention {
   end: number;
 }
 
+/** A type that the declarations of a source can't have. */
+export interface Diagnostic {
+  /**
+   * type: an element of an array is any, a pattern has no type; any: a variable, a parameter or the value of a property is any;
+   * property, spread, using: one that is dropped; an array with a spread of kind spread has no type.
+   */
+  kind: "type" | "any" | "property" | "spread" | "using";
+  start: number;
+  end: number;
+}
+
+/** What a .d.ts of a source says, and the types that couldn't be determined, in the order in which that was found. */
+export interface Declarations {
+  text: string;
+  diagnostics: Diagnostic[];
+}
+
 export interface Exports {
   names: string[];
   /** The modules whose names are exported again. */
@@ -110,6 +127,17 @@ export function rewrite(
  */
 declare function exportsOf(text: string | Uint8Array, mediaType: MediaType, options?: { commonJs?: boolean }): Exports;
 export { exportsOf as exports };
+
+/**
+ * What a .d.ts of the source says, with the comments before the items that stay, and which types couldn't be determined. No type is
+ * checked, and no other text is read.
+ * @example declarations("export const a = [1];", "TypeScript").text // "export declare const a: readonly [number];\n"
+ */
+export function declarations(
+  text: string | Uint8Array,
+  mediaType: MediaType,
+  options?: { comments?: boolean },
+): Declarations;
 
 /**
  * The report of a bundle's graph.

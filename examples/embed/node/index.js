@@ -8,6 +8,7 @@ const KINDS = [
   "import-source", "import-defer", "dynamic-source", "dynamic-defer", "require", "require-resolve", "type-import", "worker", "address",
 ];
 const CALLS = ["import", "require"];
+const DIAGNOSTICS = ["type", "any", "property", "spread", "using"];
 const MENTIONS = ["name", "import", "meta", "with", "member", "key", "this"];
 const REASONS = {
   6: "the text is over 16 MiB",
@@ -121,6 +122,15 @@ function rewrite(text, mediaType, specifiers) {
 function exportsOf(text, mediaType, { commonJs = false } = {}) {
   const [names, again] = done(addon.exports(bytesOf(text), mediaTypeOf(mediaType), commonJs ? 1 : 0));
   return { names, again };
+}
+
+function declarations(text, mediaType, { comments = true } = {}) {
+  const [declared, numbers] = done(addon.declarations(bytesOf(text), mediaTypeOf(mediaType), Number(comments)));
+  const diagnostics = [];
+  for (let i = 0; i < numbers.length; i += 3) {
+    diagnostics.push({ kind: DIAGNOSTICS[numbers[i]], start: numbers[i + 1], end: numbers[i + 2] });
+  }
+  return { text: declared, diagnostics };
 }
 
 function report(bundle) {
@@ -291,6 +301,6 @@ function version() {
 }
 
 module.exports = {
-  sites, unread, mentions, rewrite, exports: exportsOf, build, report, version,
+  sites, unread, mentions, rewrite, exports: exportsOf, declarations, build, report, version,
   Builder, Graph, SourceError, ChangeError, BundleError, AnswerError, TooManyModules,
 };

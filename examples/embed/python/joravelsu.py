@@ -12,6 +12,8 @@
     Exports(names=['a'], again=['./b.js'])
     >>> exports_of('exports.b = 1; module.exports.a = 2;', CJS, common_js=True)
     Exports(names=['a', 'b'], again=[])
+    >>> declarations_of("export const a = [1], b = f();", TYPESCRIPT)
+    Declarations(text='export declare const a: readonly [number], b: any;\\n', diagnostics=[Diagnostic(kind='any', start=22, end=23)])
 
 The library is the one that the variable JORAVELSU_LIBRARY names, else libjoravelsu.so beside this module, else the system's.
 """
@@ -47,6 +49,7 @@ _KINDS = ("import", "export", "import-equals", "dynamic", "reference-path", "ref
           "import-source", "import-defer", "dynamic-source", "dynamic-defer", "require",
           "require-resolve", "type-import", "worker", "address")
 _CALLS = ("import", "require")
+_DIAGNOSTICS = ("type", "any", "property", "spread", "using")
 _MENTIONS = ("name", "import", "meta", "with", "member", "key", "this")
 _NO_UTF8, _NAMED = 7, 2
 _LEXICAL = (None, "UnterminatedString", "UnterminatedComment", "UnterminatedTemplate", "UnterminatedRegExp", "InvalidEscape", "InvalidChar", "Unbalanced")
@@ -122,6 +125,25 @@ class Exports(NamedTuple):
     """The modules whose names it exports again."""
 
 
+class Diagnostic(NamedTuple):
+    """A type that the declarations of a source can't have."""
+
+    kind: str
+    """type: an element of an array is any, a pattern has no type; any: a variable, a parameter or the value of a property is any;
+    property, spread, using: one that is dropped; an array with a spread of kind spread has no type."""
+    start: int
+    """Its first byte in the text, from 0."""
+    end: int
+    """The byte behind it."""
+
+
+class Declarations(NamedTuple):
+    """What a .d.ts of a source says, and the types that couldn't be determined, in the order in which that was found."""
+
+    text: str
+    diagnostics: list[Diagnostic]
+
+
 class SourceError(ValueError):
     """Why a source isn't read. `status` is the library's; `place` is the byte of the text at which a fault is, or None; `kind` names what
     is wrong at it, such as `UnterminatedString`, or is `Syntax`, or None."""
@@ -192,6 +214,19 @@ class _Mention(ctypes.Structure):
 
 class _MentionsAnswer(ctypes.Structure):
     _fields_ = [("mentions", ctypes.c_size_t), ("fault", ctypes.c_uint32), ("place", ctypes.c_size_t)]
+
+
+class _Diagnostic(ctypes.Structure):
+    _fields_ = [("kind", ctypes.c_uint32), ("start", ctypes.c_size_t), ("end", ctypes.c_size_t)]
+
+
+class _DeclarationsAnswer(ctypes.Structure):
+    _fields_ = [
+        ("diagnostics", ctypes.c_size_t),
+        ("text_bytes", ctypes.c_size_t),
+        ("fault", ctypes.c_uint32),
+        ("place", ctypes.c_size_t),
+    ]
 
 
 class _Change(ctypes.Structure):
@@ -294,6 +329,9 @@ def _load() -> ctypes.CDLL:
     names = [ctypes.POINTER(_Name), size, text, size]
     library.joravelsu_exports.argtypes = [text, size, ctypes.c_uint32, ctypes.c_uint32, *names, ctypes.POINTER(_ExportsAnswer)]
     library.joravelsu_exports.restype = ctypes.c_uint32
+    diagnostics = [ctypes.POINTER(_Diagnostic), size, text, size]
+    library.joravelsu_declarations.argtypes = [text, size, ctypes.c_uint32, ctypes.c_uint32, *diagnostics, ctypes.POINTER(_DeclarationsAnswer)]
+    library.joravelsu_declarations.restype = ctypes.c_uint32
     graph = ctypes.POINTER(_Handle)
     library.joravelsu_graph_new.argtypes = [text, size, graph, text, size, ctypes.POINTER(size)]
     library.joravelsu_graph_poll.argtypes = [graph, ctypes.POINTER(size)]
@@ -461,6 +499,31 @@ def exports_of(text: str | bytes, media_type: int, common_js: bool = False) -> E
         if status != _NO_ROOM:
             raise _refused(status, answer.place, answer.fault)
         names_length, values_length = answer.exports + answer.reexports, answer.value_bytes
+
+
+def declarations_of(text: str | bytes, media_type: int, comments: bool = True) -> Declarations:
+    """What a .d.ts of the source says, with the comments before the items that stay, and which types couldn't be determined. No type
+    is checked, and no other text is read. Raises SourceError where it has no tree. Places are those of imports_of.
+
+    >>> declarations_of("export function f(a = 1): string { return g(a); }", TYPESCRIPT).text
+    'export declare function f(a?: number): string;\\n'
+    """
+    source = text.encode() if isinstance(text, str) else bytes(text)
+    answer = _DeclarationsAnswer()
+    length, room = 64, 2 * len(source) + 64
+    while True:
+        found, buffer = (_Diagnostic * length)(), ctypes.create_string_buffer(room)
+        status = _library.joravelsu_declarations(
+            source, len(source), media_type, int(comments), found, length, buffer, room, ctypes.byref(answer)
+        )
+        if status == _NO_MEMORY:
+            raise MemoryError
+        if status == _DONE:
+            told = ctypes.string_at(buffer, answer.text_bytes).decode()
+            return Declarations(told, [Diagnostic(_DIAGNOSTICS[it.kind], it.start, it.end) for it in found[: answer.diagnostics]])
+        if status != _NO_ROOM:
+            raise _refused(status, answer.place, answer.fault)
+        length, room = answer.diagnostics, answer.text_bytes
 
 
 def graph(bundle: str | bytes | dict) -> str:

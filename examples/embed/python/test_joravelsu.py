@@ -62,6 +62,16 @@ def raw_exports(text, media_type, common_js, names_length, values_length):
     return status, (answer.exports, answer.reexports, answer.value_bytes, answer.fault, answer.place), untouched
 
 
+def raw_declarations(text, media_type, length, room):
+    """The same of declarations."""
+    found, buffer = (joravelsu._Diagnostic * (length + 1))(), ctypes.create_string_buffer(b"#" * (room + 1))
+    found[0].kind = 99
+    answer = joravelsu._DeclarationsAnswer(7, 7, 7, 7)
+    status = joravelsu._library.joravelsu_declarations(text, len(text), media_type, 1, found, length, buffer, room, ctypes.byref(answer))
+    untouched = found[0].kind == 99 and buffer.raw[:-1] == b"#" * (room + 1)
+    return status, (answer.diagnostics, answer.text_bytes, answer.fault, answer.place), untouched
+
+
 class Version(unittest.TestCase):
     def test_version(self):
         self.assertEqual(joravelsu.version(), (0, 1, 0))
@@ -312,6 +322,44 @@ class Exports(unittest.TestCase):
         self.assertEqual(raw_exports(text, mjs, 5, 0, 0), (0, (0, 0, 0, 0, 0), True))
         self.assertEqual(raw_exports(b"exports.a = 1;", joravelsu.CJS, 5, 1, 1), (0, (1, 0, 1, 0, 0), False))
         self.assertEqual(raw_exports(b"a b", mjs, 0, 0, 0), (11, (0, 0, 0, 0, 2), True))
+
+
+class Declarations(unittest.TestCase):
+    def test_of_sources(self):
+        rows = [
+            ("export function foo(a = 2): number { return 2; }", "export declare function foo(a?: number): number;\n", []),
+            ("export default 42;", "declare const _dts_1: number;\nexport default _dts_1;\n", []),
+            ('export const nope = [...foo(), "a"] as const;', "export declare const nope: any;\n", [("spread", 21, 29), ("any", 13, 17)]),
+            ("export const a = [g()], { b } = h;", "export declare const a: readonly [any], { b };\n", [("type", 18, 21), ("type", 24, 33)]),
+            ("\ufeffexport const ö = { m() {} };", "export declare const ö: {\n};\n", [("property", 20, 26)]),
+        ]
+        for text, declared, diagnostics in rows:
+            self.assertEqual(joravelsu.declarations_of(text, joravelsu.TYPESCRIPT), (declared, diagnostics), text)
+
+    def test_comments(self):
+        text = "/** a */ export let a: string; // b\n/* c */ f();\n/* d */ export let b: string;"
+        plain = "export declare let a: string;\nexport declare let b: string;\n"
+        self.assertEqual(joravelsu.declarations_of(text, joravelsu.TYPESCRIPT, comments=False).text, plain)
+        self.assertEqual(joravelsu.declarations_of(text, joravelsu.TYPESCRIPT).text, plain.replace("export declare let a", "/** a */\nexport declare let a").replace("export declare let b", "/* d */\nexport declare let b"))
+
+    def test_many(self):
+        text = "".join(f"export let a{i} = b;" for i in range(1000))
+        found = joravelsu.declarations_of(text, joravelsu.MJS)
+        self.assertEqual(found.text, "".join(f"export declare let a{i}: any;\n" for i in range(1000)))
+        self.assertEqual([it.kind for it in found.diagnostics], ["any"] * 1000)
+
+    def test_refusals(self):
+        rows = [(b"ab\xff", 3, 7, 2), (b" " * ((1 << 24) + 1), 3, 6, None), (b'import "a', 8, 10, 7), (b"1 = 2", 3, 11, 0), (b"{}", joravelsu.JSON, 9, None), (b"", 99, 8, None)]
+        for text, media_type, status, place in rows:
+            with self.assertRaises(joravelsu.SourceError) as caught:
+                joravelsu.declarations_of(text, media_type)
+            self.assertEqual((caught.exception.status, caught.exception.place), (status, place))
+
+    def test_buffers(self):
+        text = b"export let a = b;"
+        for length, room, status in ((1, 27, 0), (1, 26, 4), (0, 27, 4), (0, 0, 4)):
+            self.assertEqual(raw_declarations(text, joravelsu.TYPESCRIPT, length, room), (status, (1, 27, 0, 0), status == 4))
+        self.assertEqual(raw_declarations(b"", joravelsu.TYPESCRIPT, 0, 0), (0, (0, 0, 0, 0), True))
 
 
 class Graphs(unittest.TestCase):

@@ -62,6 +62,16 @@ test("rewrite", () => {
   assert.throws(() => rewrite("1 = 2", "Mjs", { 0: "a" }), SourceError);
 });
 
+test("declarations", () => {
+  assert.deepEqual(joravelsu.declarations("/** a */ export function f(a = 1, b): string { return a + b; }", "TypeScript"), {
+    text: "/** a */\nexport declare function f(a?: number, b: any): string;\n",
+    diagnostics: [{ kind: "any", start: 34, end: 35 }],
+  });
+  assert.equal(joravelsu.declarations("/** a */ export const b = 1;", "TypeScript", { comments: false }).text, "export declare const b: number;\n");
+  assert.equal(joravelsu.declarations("export const a = {}.a;".repeat(200), "TypeScript").diagnostics.length, 200);
+  assert.throws(() => joravelsu.declarations("1 = 2", "Mjs"), (e) => e instanceof SourceError && e.status === 11);
+});
+
 test("exports", () => {
   assert.deepEqual(joravelsu.exports('export const a = 1; export * from "./b.js";', "Mjs"), { names: ["a"], again: ["./b.js"] });
   assert.deepEqual(joravelsu.exports("exports.b = 1; module.exports.a = 2;", "Cjs", { commonJs: true }), { names: ["a", "b"], again: [] });

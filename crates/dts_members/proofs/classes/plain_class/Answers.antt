@@ -21,6 +21,7 @@ returns-clause-written c = λ e by knows known.
     (c.group_at.ensures.value x ts) (c.open-place.ensures.written k) (c.open-place.ensures.place k)
     (c.keep_part.ensures.written j x ts) (c.keep_part-2.ensures.written i x ts) (c.open-group.ensures.written h)
     (c.open-group.ensures.place h)
-    (c.open-group.ensures.state ∙ (c.keep_part-2.ensures.state ∙ (c.keep_part.ensures.state ∙ c.open-place.ensures.state)))
+    (c.open-group.ensures.state
+    ∙ (c.keep_part-2.ensures.state ∙ (c.keep_part.ensures.state ∙ c.open-place.ensures.state)))
     (c.all_members.ensures.written g by knows known) (c.close_group.ensures.written f) (c.close_node.ensures.written e)
     (c.close_node.ensures.state ∙ c.close_group.ensures.state)

@@ -10,6 +10,7 @@ pub returns-in-Node-clause-written : goal.returns-in-Node-clause-written
 returns-in-Node-clause-written c = λ e by knows known.
     let x = c.args.env.now.text.now in
     let ts = c.args.env.now.tokens.now in
-    subst (λ (o : Option ClassMember). IfThere (MemberMade x ts by c.args.out.now c.labelled.new.out c.labelled.result) o)
+    subst (λ (o : Option ClassMember). IfThere (MemberMade x ts by c.args.out.now c.labelled.new.out c.labelled.result)
+    o)
     (sym (member_there x ts c.args.it.now c.in-Node.label c.in-Node.is))
     (c.labelled.ensures.written e c.in-Node.is by knows known)

@@ -30,5 +30,6 @@ returns-clause-written c = λ e kind a g is by knows known.
     let ts = c.args.env.now.tokens.now in
     plain_kept by x ts kind a g _ _ _ c.args.out.now c.method_up_to.new.out _ _ _
     (implemented c.args.ranges.now by _ _ _ _ known c.span_of.ensures c.is_listed.ensures c.if-is_listed.false)
-    (lifted (λ key told. c.method_up_to.ensures.written e (stmt_in (valued x ts c.args.of.now.body)) by knows kind a g is
+    (lifted (λ key told. c.method_up_to.ensures.written e (stmt_in (valued x ts c.args.of.now.body)) by knows kind a g
+    is
     (key_rule by key) told) (c.member_key-shown.ensures by knows))

@@ -1,26 +1,23 @@
 -- The builder's clauses, over what its loader tells.
-use Rattle.std.proofs.Common.{rules, subst, ◌∙◌}
-use Rattle.std.specs.Prelude.{IfOk, IfErr}
+use Rattle.std.proofs.Common.{rules, ◌∙◌}
 use Rattle.graph_entry.proofs.Theorems.{analysed_by_once}
-use Rattle.graph_builder.specs.Graph.{IsGraph}
 use Rattle.graph_builder.specs.Builder.{starts}
 use Rattle.graph_builder.specs.Memory.{tells}
-use Rattle.graph_run.specs.Steps.{SaysLarge}
 use Rattle.forms_analyzer.specs.Laws.{reads_by_once}
-use Rattle.forms_build.specs.Forms.{FormsWays, ways_of, rules_in}
+use Rattle.forms_build.specs.Forms.{ways_of, rules_in}
+use Rattle.forms_build.proofs.GraphLemmas.{graph_kept, large_kept}
 use Rattle.graph_run.proofs.GraphLemmas.{built_graph, refused_large, settled_none}
 use Rattle.forms_build.proofs.build.poll_forms.Goals as goal
 
 pub returns-then-not-is_not_yet-clause-graph : goal.returns-then-not-is_not_yet-clause-graph
 returns-then-not-is_not_yet-clause-graph g c =
+    let by = g.R.KindResolver.resolving_by_kind in
     let polled = c.poll_batched-answer in
     let new = c.poll_batched-answer.new.self.inner in
-    subst (λ (w : FormsWays). IfOk polled.result
-    (λ g. IsGraph (rules_in w) (starts c.args.build.now.inner) (tells c.args.build.now.inner.loader.modules)
-    g.entries))
-    c.polls.invariant.following
-    (built_graph (rules_in c.polls.build.inner.following)
-    (analysed_by_once (ways_of c.polls.build.inner.following)
+    graph_kept by c.args.build.now.inner.following c.polls.build.inner.following polled.result
+    (starts c.args.build.now.inner) (tells c.args.build.now.inner.loader.modules) c.polls.invariant.following
+    (built_graph (rules_in by c.polls.build.inner.following)
+    (analysed_by_once (ways_of by c.polls.build.inner.following)
     (reads_by_once c.polls.build.inner.following.analyzer.forms
     c.polls.build.inner.following.analyzer.all_forms)) polled.result (starts c.polls.build.inner)
     (starts c.args.build.now.inner) new.log
@@ -29,14 +26,14 @@ returns-then-not-is_not_yet-clause-graph g c =
 
 pub returns-then-not-is_not_yet-clause-large : goal.returns-then-not-is_not_yet-clause-large
 returns-then-not-is_not_yet-clause-large g c =
+    let by = g.R.KindResolver.resolving_by_kind in
     let polled = c.poll_batched-answer in
     let new = c.poll_batched-answer.new.self.inner in
     let old = c.polls.invariant.new in
-    subst (λ (w : FormsWays). IfErr polled.result
-    (SaysLarge (rules_in w) (starts c.args.build.now.inner) (tells c.args.build.now.inner.loader.modules)
-    c.args.build.now.inner.limit))
+    large_kept by c.args.build.now.inner.following c.polls.build.inner.following polled.result
+    (starts c.args.build.now.inner) (tells c.args.build.now.inner.loader.modules) c.args.build.now.inner.limit
     c.polls.invariant.following
-    (refused_large (rules_in c.polls.build.inner.following) polled.result (starts c.polls.build.inner)
+    (refused_large (rules_in by c.polls.build.inner.following) polled.result (starts c.polls.build.inner)
     (starts c.args.build.now.inner) new.log
     new.loader.modules c.args.build.now.inner.loader.modules c.polls.build.inner.limit c.args.build.now.inner.limit
     c.polls.invariant.starting c.polls.invariant.limit (polled.ensures.telling ∙ c.polls.invariant.told)

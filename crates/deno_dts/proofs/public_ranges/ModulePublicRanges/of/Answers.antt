@@ -7,6 +7,6 @@ use Rattle.deno_dts.proofs.public_ranges.ModulePublicRanges.of.Goals as goal
 
 pub returns : goal.returns
 returns c = λ r.
-    ap (λ (found : List Range). has_range found r) c.into_vec-ranges.ensures
-    ∙ of_program c.parts.result.0.now c.parts.result.1.now c.parts.result.2.entries.now c.in_ok-overloads.field-0
-    c.args.program.now.typed c.parts.ensures.typed c.in_ok-overloads.ensures r
+    c.in_ok-ranges.ensures r ∙ ap (λ (found : List Range). has_range found r) c.as_slice.ensures
+    ∙ of_program c.parts.result.0.now c.parts.result.1.now c.parts.result.2.entries.now c.in_ok-found.found
+    c.args.program.now.typed c.parts.ensures.typed c.in_ok-found.ensures r
